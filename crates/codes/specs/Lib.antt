@@ -1,0 +1,4 @@
+pub mod Place
+pub mod Row
+pub mod Round
+pub mod Coincide

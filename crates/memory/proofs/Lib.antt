@@ -1,0 +1,5 @@
+pub mod SlotLaws
+pub mod BodyLaws
+pub mod WorkerLaws
+pub mod FreshLaws
+pub mod ValueLaws

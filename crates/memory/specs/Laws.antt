@@ -1,0 +1,56 @@
+-- Reading what was stored or written back, and reading elsewhere: words, statuses, bodies, workers, sizes, recovery's place.
+use mathlib.Core.Path.{_≡_, refl, sym, ap, _∙_}
+use mathlib.Core.Bool.{Bool, true, false}
+use Prim.Native.Nat.{ℕ, _+_, _*_, _<_}
+use native.Mathlib.Omega.{arith}
+use Rattle.word.specs.declared.Sort.{Sort}
+use Rattle.word.specs.declared.Status.{Status}
+use Rattle.word.specs.Word.{sortOf, wordNumber}
+use Rattle.word.specs.Status.{statusOf, statusNumber}
+use Rattle.word.specs.Laws.{Sorted, word-made}
+use Rattle.word.specs.StatusLaws.{StatusSorted, status-made}
+use Rattle.codes.specs.Row.{workerOf, recoveryOf}
+use Rattle.memory.specs.declared.Copy.{Copy}
+use Rattle.memory.specs.declared.Copy.the-variants.{Cached, Persisted}
+use Rattle.memory.specs.declared.Entry.{Entry}
+use Rattle.memory.specs.Block.{Block, Field, get, put}
+use Rattle.memory.specs.Block.Field.{word, status, body, worker, size, spot}
+use Rattle.memory.specs.Fresh.{sizesIn}
+use Rattle.memory.specs.Content.{wordIn, putWord, backWord, statusIn, putStatus, backStatus, countIn, entryIn, rowIn, workerIn, recoveryIn}
+use Rattle.memory.specs.Fields.{Whole, word-somewhere, status-somewhere, get-put, get-other}
+
+module _ (m : Block) (h : Whole m) where
+  module _ (a : ℕ) (l : a < 64) where
+    pub word-stored : (s : Sort) → Sorted s → wordIn Cached (putWord m a s) a ≡ s
+    word-stored s k = ap sortOf (get-put m (word Cached a) (wordNumber s) h (word-somewhere Cached a l)) ∙ word-made s k
+
+    pub word-backed : wordIn Persisted (backWord m a) a ≡ wordIn Cached m a
+    word-backed = ap sortOf (get-put m (word Persisted a) (get m (word Cached a)) h (word-somewhere Persisted a l))
+
+  module _ (d : ℕ) (l : d < 16) where
+    pub status-stored : (s : Status) → StatusSorted s → statusIn Cached (putStatus m d s) d ≡ s
+    status-stored s k = ap statusOf (get-put m (status Cached d) (statusNumber s) h (status-somewhere Cached d l)) ∙ status-made s k
+
+    pub status-backed : statusIn Persisted (backStatus m d) d ≡ statusIn Cached m d
+    status-backed = ap statusOf (get-put m (status Persisted d) (get m (status Cached d)) h (status-somewhere Persisted d l))
+
+-- two blocks that agree on a thing's fields agree on the thing
+module _ (m x : Block) where
+  pub same-word : (c : Copy) (a : ℕ) → get x (word c a) ≡ get m (word c a) → wordIn c x a ≡ wordIn c m a
+  same-word c a e = ap sortOf e
+
+  pub same-status : (c : Copy) (d : ℕ) → get x (status c d) ≡ get m (status c d) → statusIn c x d ≡ statusIn c m d
+  same-status c d e = ap statusOf e
+
+  pub same-entry : (c : Copy) (d i : ℕ) → ((j : ℕ) → get x (body c d j) ≡ get m (body c d j)) → entryIn c x d i ≡ entryIn c m d i
+  unfolding entryIn
+  same-entry c d i e = rw (e (1 + 3 * i), e (2 + 3 * i), e (3 + 3 * i))
+
+  pub same-worker : (w : ℕ) → ((j : ℕ) → get x (worker w j) ≡ get m (worker w j)) → workerIn x w ≡ workerIn m w
+  same-worker w e = rw (e 0, e 1, e 2, e 3, e 4, e 5)
+
+  pub same-sizes : ((j : ℕ) → get x (size j) ≡ get m (size j)) → sizesIn x ≡ sizesIn m
+  same-sizes e = rw (e 0, e 1, e 2)
+
+  pub same-recovery : ((j : ℕ) → get x (spot j) ≡ get m (spot j)) → recoveryIn x ≡ recoveryIn m
+  same-recovery e = rw (e 0, e 1, e 2)

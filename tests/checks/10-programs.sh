@@ -1,0 +1,15 @@
+#!/bin/sh
+# Each program that rt ci built writes, from here too, what its file stdout has.
+bad=0
+for out in crates/*/stdout; do
+    crate=$(basename "$(dirname "$out")")
+    in=crates/$crate/stdin
+    [ -f "$in" ] || in=/dev/null
+    if "target/bin/$crate" <"$in" | cmp -s - "$out"; then
+        echo "program $crate: same"
+    else
+        echo "program $crate: its output is not that of $out"
+        bad=1
+    fi
+done
+exit $bad

@@ -1,0 +1,31 @@
+#!/bin/sh
+# Every public function of a library has an ensures and no requires, a theorem in its crate's specs/Coincide.antt and a line in
+# docs/PROMISES.md; every must-fail edit has one there too.
+bad=0
+say() {
+    echo "promises: $1"
+    bad=1
+}
+count=0
+for lib in crates/*/src/lib.rt; do
+    crate=${lib#crates/}
+    crate=${crate%%/*}
+    names=$(sed -n 's/^pub use .*::\([a-z_0-9]*\);$/\1/p; s/^ *\(#\[no_mangle\] *\)\{0,1\}pub \(extern "C" \)\{0,1\}fn \([a-z_0-9]*\).*/\3/p' "$lib")
+    for f in $names; do
+        count=$((count + 1))
+        # the contract stands between the function's name and the brace that opens its body
+        contract=$(awk -v f="$f" '$0 ~ "pub (extern \"C\" )?fn " f "\\(" {on=1} on && /^\{/ {exit} on {print}' crates/"$crate"/src/*.rt)
+        case $contract in *ensures*) ;; *) say "$crate::$f has no ensures" ;; esac
+        case $contract in *requires*) say "$crate::$f has a requires" ;; esac
+        theorem=$(echo "$f" | tr _ -)
+        grep -q "^pub $theorem :" "crates/$crate/specs/Coincide.antt" || say "$crate::$f has no theorem in specs/Coincide.antt"
+        grep -q "\`$crate::$f\`" docs/PROMISES.md || say "$crate::$f is not in docs/PROMISES.md"
+    done
+done
+for edit in crates/*/must-fail/*.edit; do
+    [ -f "$edit" ] || continue
+    name=$(echo "$edit" | sed 's/^crates.//; s/.must-fail.*//')/$(basename "$edit" .edit)
+    grep -q "\`$name\`" docs/PROMISES.md || say "the edit $name is not in docs/PROMISES.md"
+done
+[ $bad = 0 ] && echo "promises: $count public functions, each with its promise and its theorem"
+exit $bad

@@ -1,0 +1,26 @@
+#!/bin/sh
+# The whole gate: the layout, rt ci once, then every other check on what rt ci left. The last line is rt ci's.
+goal=test
+. tests/need-kit.sh
+mkdir -p build
+
+fail() {
+    echo "make test: FAILED: $1" >&2
+    exit 1
+}
+
+rt fmt --check || fail "layout: run 'make fmt'"
+
+# build/ci.log and not target/, which rt ci removes
+{ rt ci 2>&1; echo $? >build/ci.status; } | tee build/ci.log
+[ "$(cat build/ci.status)" = 0 ] || fail "rt ci; see build/ci.log"
+last=$(tail -n 1 build/ci.log)
+case $last in
+*' passed, 0 failed') ;;
+*) fail "rt ci ended with '$last'" ;;
+esac
+
+for check in tests/checks/*.sh; do
+    sh "$check" || fail "$check"
+done
+echo "$last"
