@@ -16,28 +16,28 @@ working-by o t j p r e f = rw e f
 pub row-by : (x t : Worker) (r : Row) → x ≡ t → r ≡ rowOf t → r ≡ rowOf x
 row-by x t r e f = rw e f
 
--- a worker by the kind of its record
+-- a worker by the tag of its record
 module _ (r : Row) where
-  pub kind-building : r .kind ≡ 1 → Building (r .own) ≡ workerOf r
+  pub tag-building : r .tag ≡ 1 → Building (r .own) ≡ workerOf r
   unfolding workerOf
-  kind-building k = simp k
+  tag-building k = simp k
 
-  pub kind-operation : (p : Place) → p ≡ placeIn r → r .kind ≡ 2 → Working (Operation (r .own)) (r .job) p ≡ workerOf r
+  pub tag-operation : (p : Place) → p ≡ placeIn r → r .tag ≡ 2 → Working (Operation (r .own)) (r .job) p ≡ workerOf r
   unfolding workerOf
-  kind-operation p e k = simp (k, e)
+  tag-operation p e k = simp (k, e)
 
-  pub kind-read : (p : Place) → p ≡ placeIn r → r .kind ≡ 3 → Working (Read (r .own)) (r .job) p ≡ workerOf r
+  pub tag-read : (p : Place) → p ≡ placeIn r → r .tag ≡ 3 → Working (Read (r .own)) (r .job) p ≡ workerOf r
   unfolding workerOf
-  kind-read p e k = simp (k, e)
+  tag-read p e k = simp (k, e)
 
-  pub kind-reading : r .kind ≡ 4 → Reading (r .own) ≡ workerOf r
+  pub tag-reading : r .tag ≡ 4 → Reading (r .own) ≡ workerOf r
   unfolding workerOf
-  kind-reading k = simp k
+  tag-reading k = simp k
 
-  pub kind-clear : r .kind ≡ 5 → ReadClear (r .own) (r .noted) ≡ workerOf r
+  pub tag-clear : r .tag ≡ 5 → ReadClear (r .own) (r .noted) ≡ workerOf r
   unfolding workerOf
-  kind-clear k = simp k
+  tag-clear k = simp k
 
-  pub kind-other : (r .kind ≡ 1 → ⊥) → (r .kind ≡ 2 → ⊥) → (r .kind ≡ 3 → ⊥) → (r .kind ≡ 4 → ⊥) → (r .kind ≡ 5 → ⊥) → Idle ≡ workerOf r
+  pub tag-other : (r .tag ≡ 1 → ⊥) → (r .tag ≡ 2 → ⊥) → (r .tag ≡ 3 → ⊥) → (r .tag ≡ 4 → ⊥) → (r .tag ≡ 5 → ⊥) → Idle ≡ workerOf r
   unfolding workerOf
-  kind-other a b c d e = simp (ne-eqb _ _ a, ne-eqb _ _ b, ne-eqb _ _ c, ne-eqb _ _ d, ne-eqb _ _ e)
+  tag-other a b c d e = simp (ne-eqb _ _ a, ne-eqb _ _ b, ne-eqb _ _ c, ne-eqb _ _ d, ne-eqb _ _ e)

@@ -6,9 +6,9 @@ use Rattle.steps.specs.declared.Place.{Place}
 use Rattle.steps.specs.declared.Worker.{Worker}
 use Rattle.steps.specs.declared.RecoveryPlace.{RecoveryPlace}
 use Rattle.codes.specs.declared.Row.{Row}
-use Rattle.codes.specs.declared.Spot.{Spot}
+use Rattle.codes.specs.declared.RecoveryRow.{RecoveryRow}
 use Rattle.codes.specs.Place.{placeEntry}
-use Rattle.codes.specs.Row.{workerOf, rowOf, recoveryOf, spotOf}
+use Rattle.codes.specs.Row.{workerOf, rowOf, recoveryOf, recoveryRow}
 
 pub place-entry : (p : Place) (r s : ℕ) → r ≡ placeEntry p → s ≡ placeEntry p → r ≡ s
 place-entry p r s = coincide
@@ -19,8 +19,8 @@ worker-of x r s = coincide
 pub row-of : (x : Worker) (r s : Row) → r ≡ rowOf x → s ≡ rowOf x → r ≡ s
 row-of x r s = coincide
 
-pub recovery-of : (x : Spot) (r s : RecoveryPlace) → r ≡ recoveryOf x → s ≡ recoveryOf x → r ≡ s
+pub recovery-of : (x : RecoveryRow) (r s : RecoveryPlace) → r ≡ recoveryOf x → s ≡ recoveryOf x → r ≡ s
 recovery-of x r s = coincide
 
-pub spot-of : (x : RecoveryPlace) (r s : Spot) → r ≡ spotOf x → s ≡ spotOf x → r ≡ s
-spot-of x r s = coincide
+pub recovery-row : (x : RecoveryPlace) (r s : RecoveryRow) → r ≡ recoveryRow x → s ≡ recoveryRow x → r ≡ s
+recovery-row x r s = coincide

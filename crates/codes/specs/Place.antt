@@ -1,4 +1,4 @@
--- A place in the steps of an operation as three numbers: which, the entry, what was noted.
+-- A place in the steps of an operation as three numbers: which of the 17 (numbers of the block's own, not document 01's), the entry, what was noted.
 use mathlib.Core.Bool.{cond}
 use Prim.Native.Nat.{ℕ}
 use lib.Dec.{eqb}

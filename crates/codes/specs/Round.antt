@@ -9,7 +9,7 @@ use Rattle.steps.specs.declared.Worker.the-variants.{Idle, Building, Working, R
 use Rattle.steps.specs.declared.RecoveryPlace.{RecoveryPlace}
 use Rattle.steps.specs.declared.RecoveryPlace.the-variants.{Outside, At}
 use Rattle.codes.specs.Place.{placeOf, placeNumber, placeEntry, placeNoted}
-use Rattle.codes.specs.Row.{workerOf, rowOf, recoveryOf, spotOf}
+use Rattle.codes.specs.Row.{workerOf, rowOf, recoveryOf, recoveryRow}
 
 pub place-round : (p : Place) → placeOf (placeNumber p) (placeEntry p) (placeNoted p) ≡ p
 unfolding placeOf
@@ -40,7 +40,7 @@ worker-round (Working (Read a) e p) = rw place-round
 worker-round (Reading a) = refl
 worker-round (ReadClear a v) = refl
 
-pub recovery-round : (p : RecoveryPlace) → recoveryOf (spotOf p) ≡ p
+pub recovery-round : (p : RecoveryPlace) → recoveryOf (recoveryRow p) ≡ p
 unfolding recoveryOf
 recovery-round Outside = refl
 recovery-round (At d s) = refl

@@ -1,4 +1,4 @@
--- A worker as the six numbers of its record, recovery's place as three.
+-- A worker as the six numbers of its row, recovery's place as three.
 use mathlib.Core.Bool.{cond}
 use Prim.Native.Nat.{ℕ}
 use lib.Dec.{eqb}
@@ -10,26 +10,26 @@ use Rattle.steps.specs.declared.Worker.the-variants.{Idle, Building, Working, R
 use Rattle.steps.specs.declared.RecoveryPlace.{RecoveryPlace}
 use Rattle.steps.specs.declared.RecoveryPlace.the-variants.{Outside, At}
 use Rattle.codes.specs.declared.Row.{Row}
-use Rattle.codes.specs.declared.Spot.{Spot}
+use Rattle.codes.specs.declared.RecoveryRow.{RecoveryRow}
 use Rattle.codes.specs.Place.{placeOf, placeNumber, placeEntry, placeNoted}
 
 abbrev pub placeIn : Row → Place
 placeIn r = placeOf (r .place) (r .entry) (r .noted)
 
--- any other kind reads as an idle worker
+-- any other tag reads as an idle worker
 unfoldable pub workerOf : Row → Worker
 workerOf r =
-    cond (eqb (r .kind) 1) (Building (r .own))
-    (cond (eqb (r .kind) 2) (Working (Operation (r .own)) (r .job) (placeIn r))
-    (cond (eqb (r .kind) 3) (Working (Read (r .own)) (r .job) (placeIn r))
-    (cond (eqb (r .kind) 4) (Reading (r .own))
-    (cond (eqb (r .kind) 5) (ReadClear (r .own) (r .noted)) Idle))))
+    cond (eqb (r .tag) 1) (Building (r .own))
+    (cond (eqb (r .tag) 2) (Working (Operation (r .own)) (r .job) (placeIn r))
+    (cond (eqb (r .tag) 3) (Working (Read (r .own)) (r .job) (placeIn r))
+    (cond (eqb (r .tag) 4) (Reading (r .own))
+    (cond (eqb (r .tag) 5) (ReadClear (r .own) (r .noted)) Idle))))
 
 abbrev pub rowBare : ℕ → ℕ → ℕ → Row
-rowBare k o v = record { kind = k; own = o; job = 0; place = 0; entry = 0; noted = v }
+rowBare k o v = record { tag = k; own = o; job = 0; place = 0; entry = 0; noted = v }
 
 abbrev pub rowAt : ℕ → ℕ → ℕ → Place → Row
-rowAt k o j p = record { kind = k; own = o; job = j; place = placeNumber p; entry = placeEntry p; noted = placeNoted p }
+rowAt k o j p = record { tag = k; own = o; job = j; place = placeNumber p; entry = placeEntry p; noted = placeNoted p }
 
 abbrev pub rowWorking : Own → ℕ → Place → Row
 rowWorking (Operation d) e p = rowAt 2 d e p
@@ -42,9 +42,9 @@ rowOf (Working o e p) = rowWorking o e p
 rowOf (Reading a) = rowBare 4 a 0
 rowOf (ReadClear a v) = rowBare 5 a v
 
-unfoldable pub recoveryOf : Spot → RecoveryPlace
+unfoldable pub recoveryOf : RecoveryRow → RecoveryPlace
 recoveryOf s = cond (eqb (s .on) 0) Outside (At (s .descriptor) (s .done))
 
-abbrev pub spotOf : RecoveryPlace → Spot
-spotOf Outside = record { on = 0; descriptor = 0; done = 0 }
-spotOf (At d s) = record { on = 1; descriptor = d; done = s }
+abbrev pub recoveryRow : RecoveryPlace → RecoveryRow
+recoveryRow Outside = record { on = 0; descriptor = 0; done = 0 }
+recoveryRow (At d s) = record { on = 1; descriptor = d; done = s }

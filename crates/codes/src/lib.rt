@@ -6,11 +6,11 @@ use steps::Worker;
 use word::Outcome;
 ghost use mathlib.Core.Path.{_≡_};
 ghost use Rattle.codes.specs.Place.{placeOf, placeNumber, placeEntry, placeNoted};
-ghost use Rattle.codes.specs.Row.{workerOf, rowOf, rowBare, rowAt, recoveryOf, spotOf};
+ghost use Rattle.codes.specs.Row.{workerOf, rowOf, rowBare, rowAt, recoveryOf, recoveryRow};
 
-// A worker's record: what it is, what it owns, its current job, its place there, the entry, what it noted.
+// A worker's row: what it is, what it owns, its current job, its place there, the entry, what it noted.
 pub struct Row {
-    pub kind: u64,
+    pub tag: u64,
     pub own: u64,
     pub job: u64,
     pub place: u64,
@@ -19,7 +19,7 @@ pub struct Row {
 }
 
 // Recovery's place: whether there is one, the descriptor, the steps done.
-pub struct Spot {
+pub struct RecoveryRow {
     pub on: u64,
     pub descriptor: u64,
     pub done: u64,
@@ -129,7 +129,7 @@ pub fn worker_of(r: Row) -> Worker
     ensures { λ x. ⌜ x ≡ workerOf r ⌝ }
 {
     let p = place_of(r.place, r.entry, r.noted);
-    let k = r.kind;
+    let k = r.tag;
     match k {
         1 => Worker::Building(r.own),
         2 => Worker::Working(Own::Operation(r.own), r.job, p),
@@ -140,11 +140,11 @@ pub fn worker_of(r: Row) -> Worker
     }
 }
 
-fn row_bare(kind: u64, own: u64, noted: u64) -> Row
-    ensures { λ r. ⌜ r ≡ rowBare kind own noted ⌝ }
+fn row_bare(tag: u64, own: u64, noted: u64) -> Row
+    ensures { λ r. ⌜ r ≡ rowBare tag own noted ⌝ }
 {
     Row {
-        kind,
+        tag,
         own,
         job: 0,
         place: 0,
@@ -153,11 +153,11 @@ fn row_bare(kind: u64, own: u64, noted: u64) -> Row
     }
 }
 
-fn row_at(kind: u64, own: u64, job: u64, p: Place) -> Row
-    ensures { λ r. ⌜ r ≡ rowAt kind own job p ⌝ }
+fn row_at(tag: u64, own: u64, job: u64, p: Place) -> Row
+    ensures { λ r. ⌜ r ≡ rowAt tag own job p ⌝ }
 {
     Row {
-        kind,
+        tag,
         own,
         job,
         place: place_number(p),
@@ -187,7 +187,7 @@ pub fn row_of(x: Worker) -> Row
     }
 }
 
-pub fn recovery_of(s: Spot) -> RecoveryPlace
+pub fn recovery_of(s: RecoveryRow) -> RecoveryPlace
     ensures { λ r. ⌜ r ≡ recoveryOf s ⌝ }
 {
     if s.on == 0 {
@@ -196,16 +196,16 @@ pub fn recovery_of(s: Spot) -> RecoveryPlace
     RecoveryPlace::At(s.descriptor, s.done)
 }
 
-pub fn spot_of(p: RecoveryPlace) -> Spot
-    ensures { λ r. ⌜ r ≡ spotOf p ⌝ }
+pub fn recovery_row(p: RecoveryPlace) -> RecoveryRow
+    ensures { λ r. ⌜ r ≡ recoveryRow p ⌝ }
 {
     match p {
-        RecoveryPlace::Outside => Spot {
+        RecoveryPlace::Outside => RecoveryRow {
             on: 0,
             descriptor: 0,
             done: 0,
         },
-        RecoveryPlace::At(d, s) => Spot {
+        RecoveryPlace::At(d, s) => RecoveryRow {
             on: 1,
             descriptor: d,
             done: s,

@@ -7,7 +7,7 @@ use lib.ListN.{getD, set}
 use borrow.Author.Tests.{lt-ltb, le-ltb}
 use Rattle.memory.specs.declared.Copy.{Copy}
 use Rattle.memory.specs.Block.{Block, at, store, baseOf, slot}
-use Rattle.memory.specs.Block.Field.{word, status, body, worker, size, spot}
+use Rattle.memory.specs.Block.Field.{word, status, body, worker, size, recovery}
 
 -- a number of the block
 module _ (m : List ℕ) (i : ℕ) where

@@ -4,7 +4,7 @@ use Prim.Native.Nat.{ℕ}
 use Rattle.word.specs.declared.Sort.{Sort}
 use Rattle.word.specs.declared.Status.{Status}
 use Rattle.memory.specs.declared.Copy.the-variants.{Persisted}
-use Rattle.memory.specs.declared.Entry.{Entry}
+use Rattle.steps.specs.declared.Entry.{Entry}
 use Rattle.memory.specs.declared.Found.{Found}
 use Rattle.memory.specs.declared.Found.the-variants.{Here, Missing}
 use Rattle.memory.specs.Block.{Block}

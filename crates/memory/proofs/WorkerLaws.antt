@@ -6,14 +6,14 @@ use Rattle.steps.specs.declared.Worker.{Worker}
 use Rattle.steps.specs.declared.Worker.the-variants.{Idle}
 use Rattle.steps.specs.declared.RecoveryPlace.{RecoveryPlace}
 use Rattle.codes.specs.declared.Row.{Row}
-use Rattle.codes.specs.declared.Spot.{Spot}
-use Rattle.codes.specs.Row.{rowOf, recoveryOf, spotOf}
+use Rattle.codes.specs.declared.RecoveryRow.{RecoveryRow}
+use Rattle.codes.specs.Row.{rowOf, recoveryOf, recoveryRow}
 use Rattle.memory.specs.Block.{Block, at, store, slot, put}
 use Rattle.memory.specs.Block.Field.{worker}
-use Rattle.memory.specs.Content.{putRow, putWorker, idled, spotIn, recoveryIn, putRecovery}
+use Rattle.memory.specs.Content.{putRow, putWorker, idled, recoveryRowIn, recoveryIn, putRecovery}
 
 pub worker-put : (m a b c d e f : Block) (w : ℕ) (x : Worker) (r : Row) → r ≡ rowOf x
-    → a ≡ put m (worker w 0) (r .kind) → b ≡ put a (worker w 1) (r .own) → c ≡ put b (worker w 2) (r .job)
+    → a ≡ put m (worker w 0) (r .tag) → b ≡ put a (worker w 1) (r .own) → c ≡ put b (worker w 2) (r .job)
     → d ≡ put c (worker w 3) (r .place) → e ≡ put d (worker w 4) (r .entry) → f ≡ put e (worker w 5) (r .noted)
     → f ≡ putWorker m w x
 unfolding putRow
@@ -31,7 +31,7 @@ pub recovery-read : (m : Block) (x y z : ℕ) (p : RecoveryPlace) → x ≡ at m
 unfolding slot
 recovery-read m x y z p e f g h = h ∙ rw (e, f, g)
 
-pub recovery-put : (m a b c : Block) (p : RecoveryPlace) (s : Spot) → s ≡ spotOf p
+pub recovery-put : (m a b c : Block) (p : RecoveryPlace) (s : RecoveryRow) → s ≡ recoveryRow p
     → a ≡ store m 643 (s .on) → b ≡ store a 644 (s .descriptor) → c ≡ store b 645 (s .done) → c ≡ putRecovery m p
 unfolding slot
 recovery-put m a b c p s e f g h = h ∙ rw (g, f, e)

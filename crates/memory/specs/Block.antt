@@ -1,5 +1,6 @@
 -- The whole machine is one list of 646 numbers, a block. A field names one of its numbers; `slot` says where that stands.
--- A field out of range stands nowhere: it reads 0, and a store there changes nothing.
+-- A field past the 64 words, 16 descriptors of 13 numbers, 8 workers of 8 numbers that a block has room for stands nowhere: it reads 0, and a store there
+-- changes nothing. (n, k and w, which may be smaller, play no part here.)
 use Prim.Native.Nat.{ℕ, _+_, _*_}
 use mathlib.Core.Bool.{cond}
 use mathlib.Core.List.{List}
@@ -16,12 +17,12 @@ pub data Field : Type 0 where
   word status : Copy → ℕ → Field
   -- a copy of a number of a descriptor's body: 0 the count; 1 + 3i, 2 + 3i, 3 + 3i the address, expected and desired of entry i
   body : Copy → ℕ → ℕ → Field
-  -- a number of a worker's record
+  -- a number of a worker's row: its tag, what it owns, its job, its place there, the entry, what it noted; two more are not used
   worker : ℕ → ℕ → Field
   -- n, k and w
   size : ℕ → Field
-  -- recovery's place
-  spot : ℕ → Field
+  -- recovery's place: whether there is one, the descriptor, the steps done
+  recovery : ℕ → Field
 
 abbrev pub nowhere : ℕ
 nowhere = 646
@@ -36,7 +37,7 @@ slot (status c d) = cond (ltb d 16) (baseOf c + 64 + d) nowhere
 slot (body c d j) = cond (ltb d 16) (cond (ltb j 13) (baseOf c + 80 + 13 * d + j) nowhere) nowhere
 slot (worker w j) = cond (ltb w 8) (cond (ltb j 8) (576 + 8 * w + j) nowhere) nowhere
 slot (size j) = cond (ltb j 3) (640 + j) nowhere
-slot (spot j) = cond (ltb j 3) (643 + j) nowhere
+slot (recovery j) = cond (ltb j 3) (643 + j) nowhere
 
 -- the number at a slot, and the block with another number there
 unfoldable pub at : Block → ℕ → ℕ

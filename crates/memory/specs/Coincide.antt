@@ -8,11 +8,11 @@ use Rattle.word.specs.Coincide.{coincide}
 use Rattle.steps.specs.declared.Worker.{Worker}
 use Rattle.steps.specs.declared.RecoveryPlace.{RecoveryPlace}
 use Rattle.memory.specs.declared.Copy.{Copy}
-use Rattle.memory.specs.declared.Entry.{Entry}
+use Rattle.steps.specs.declared.Entry.{Entry}
 use Rattle.memory.specs.declared.Found.{Found}
 use Rattle.memory.specs.declared.Sizes.{Sizes}
 use Rattle.memory.specs.Block.{Block}
-use Rattle.memory.specs.Content.{wordIn, putWord, backWord, statusIn, putStatus, backStatus, countIn, putCount, entryIn, putEntry, clearBody, backBody, restored, workerIn, putWorker, idled, recoveryIn, putRecovery}
+use Rattle.memory.specs.Content.{wordIn, putWord, backWord, statusIn, putStatus, backStatus, countIn, putCount, entryIn, putEntry, clearBody, backBody, crashCopied, workerIn, putWorker, idled, recoveryIn, putRecovery}
 use Rattle.memory.specs.Fresh.{sizesIn, begun, freshOf}
 use Rattle.memory.specs.Value.{entryFor, valueOf}
 
@@ -69,8 +69,8 @@ clear-body m d x y = coincide
 pub back-body : (m : Block) (d : ℕ) (x y : Block) → x ≡ backBody m d → y ≡ backBody m d → x ≡ y
 back-body m d x y = coincide
 
-pub restore : (m : Block) (x y : Block) → x ≡ restored m → y ≡ restored m → x ≡ y
-restore m x y = coincide
+pub crash-copy : (m : Block) (x y : Block) → x ≡ crashCopied m → y ≡ crashCopied m → x ≡ y
+crash-copy m x y = coincide
 
 pub put-worker : (m : Block) (w : ℕ) (x : Worker) (p q : Block) → p ≡ putWorker m w x → q ≡ putWorker m w x → p ≡ q
 put-worker m w x p q = coincide

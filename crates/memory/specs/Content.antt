@@ -8,13 +8,13 @@ use Rattle.steps.specs.declared.Worker.{Worker}
 use Rattle.steps.specs.declared.Worker.the-variants.{Idle}
 use Rattle.steps.specs.declared.RecoveryPlace.{RecoveryPlace}
 use Rattle.codes.specs.declared.Row.{Row}
-use Rattle.codes.specs.declared.Spot.{Spot}
-use Rattle.codes.specs.Row.{workerOf, rowOf, recoveryOf, spotOf}
+use Rattle.codes.specs.declared.RecoveryRow.{RecoveryRow}
+use Rattle.codes.specs.Row.{workerOf, rowOf, recoveryOf, recoveryRow}
 use Rattle.memory.specs.declared.Copy.{Copy}
 use Rattle.memory.specs.declared.Copy.the-variants.{Cached, Persisted}
-use Rattle.memory.specs.declared.Entry.{Entry}
+use Rattle.steps.specs.declared.Entry.{Entry}
 use Rattle.memory.specs.Block.{Block, at, store, slot, get, put}
-use Rattle.memory.specs.Block.Field.{word, status, body, worker, spot}
+use Rattle.memory.specs.Block.Field.{word, status, body, worker, recovery}
 
 -- a word; a store to its cached copy; its write-back
 abbrev pub wordIn : Copy → Block → ℕ → Sort
@@ -72,14 +72,14 @@ abbrev pub backBody : Block → ℕ → Block
 backBody m d = copied m (slot (body Cached d 0)) (slot (body Persisted d 0)) 13
 
 -- a crash's copying: every cached word, status and body becomes the persisted one
-abbrev pub restored : Block → Block
-restored m = copied m 288 0 288
+abbrev pub crashCopied : Block → Block
+crashCopied m = copied m 288 0 288
 
--- a worker, from the six numbers of its record
+-- a worker, from the six numbers of its row
 abbrev pub rowIn : Block → ℕ → Row
 rowIn m w =
     record {
-      kind = get m (worker w 0);
+      tag = get m (worker w 0);
       own = get m (worker w 1);
       job = get m (worker w 2);
       place = get m (worker w 3);
@@ -95,7 +95,7 @@ putRow m w r =
     put
     (put
     (put
-    (put (put (put m (worker w 0) (r .kind)) (worker w 1) (r .own)) (worker w 2) (r .job))
+    (put (put (put m (worker w 0) (r .tag)) (worker w 1) (r .own)) (worker w 2) (r .job))
     (worker w 3)
     (r .place))
     (worker w 4)
@@ -112,14 +112,14 @@ idled m zero = m
 idled m (suc w) = putWorker (idled m w) w Idle
 
 -- recovery's place
-abbrev pub spotIn : Block → Spot
-spotIn m = record { on = get m (spot 0); descriptor = get m (spot 1); done = get m (spot 2) }
+abbrev pub recoveryRowIn : Block → RecoveryRow
+recoveryRowIn m = record { on = get m (recovery 0); descriptor = get m (recovery 1); done = get m (recovery 2) }
 
 abbrev pub recoveryIn : Block → RecoveryPlace
-recoveryIn m = recoveryOf (spotIn m)
+recoveryIn m = recoveryOf (recoveryRowIn m)
 
-abbrev pub putSpot : Block → Spot → Block
-putSpot m s = put (put (put m (spot 0) (s .on)) (spot 1) (s .descriptor)) (spot 2) (s .done)
+abbrev pub putRecoveryRow : Block → RecoveryRow → Block
+putRecoveryRow m s = put (put (put m (recovery 0) (s .on)) (recovery 1) (s .descriptor)) (recovery 2) (s .done)
 
 abbrev pub putRecovery : Block → RecoveryPlace → Block
-putRecovery m p = putSpot m (spotOf p)
+putRecovery m p = putRecoveryRow m (recoveryRow p)

@@ -10,8 +10,8 @@ use borrow.Author.Tests.{lt-ltb, le-ltb, ltb-true, ltb-false, eqb-true, eqb-fals
 use Rattle.memory.specs.declared.Copy.{Copy}
 use Rattle.memory.specs.declared.Copy.the-variants.{Cached, Persisted}
 use Rattle.memory.specs.Block.{Block, Field, nowhere, baseOf, slot, at, store, get}
-use Rattle.memory.specs.Block.Field.{word, status, body, worker, size, spot}
-use Rattle.memory.specs.Content.{copied, backBody, restored}
+use Rattle.memory.specs.Block.Field.{word, status, body, worker, size, recovery}
+use Rattle.memory.specs.Content.{copied, backBody, crashCopied}
 use Rattle.memory.specs.Fields.{Whole, Somewhere, apart, body-somewhere}
 
 -- one slot
@@ -118,28 +118,28 @@ module _ (m : Block) (d : ℕ) where
 
 -- a crash's copying
 module _ (m : Block) where
-  pub restored-whole : Whole m → Whole (restored m)
-  restored-whole h = copied-whole m 288 0 288 h
+  pub crash-whole : Whole m → Whole (crashCopied m)
+  crash-whole h = copied-whole m 288 0 288 h
 
   -- what is no cached field is as it was
-  pub restored-other : (o : Field) → 288 ≤ slot o → get (restored m) o ≡ get m o
-  restored-other o h = copied-other m 288 0 288 (slot o) (λ i k q. omega arith)
+  pub crash-other : (o : Field) → 288 ≤ slot o → get (crashCopied m) o ≡ get m o
+  crash-other o h = copied-other m 288 0 288 (slot o) (λ i k q. omega arith)
 
   -- a cached field becomes the persisted one
-  shadow : (x y : Field) → Whole m → slot x < 288 → slot y ≡ 288 + slot x → get (restored m) x ≡ get m y
+  shadow : (x y : Field) → Whole m → slot x < 288 → slot y ≡ 288 + slot x → get (crashCopied m) x ≡ get m y
   shadow x y h l e =
       let z : 0 + slot x ≡ slot x = omega arith in
       rw e (rw z at (copied-to m 288 0 288 (slot x) h (omega arith) (λ a b p q r. omega arith) l))
 
-  both-nowhere : (x y : Field) → slot x ≡ nowhere → slot y ≡ nowhere → get (restored m) x ≡ get m y
-  both-nowhere x y e f = restored-other x (omega arith) ∙ rw (e, f)
+  both-nowhere : (x y : Field) → slot x ≡ nowhere → slot y ≡ nowhere → get (crashCopied m) x ≡ get m y
+  both-nowhere x y e f = crash-other x (omega arith) ∙ rw (e, f)
 
   module _ (h : Whole m) where
-    pub restored-word : (a : ℕ) → get (restored m) (word Cached a) ≡ get m (word Persisted a)
+    pub crash-word : (a : ℕ) → get (crashCopied m) (word Cached a) ≡ get m (word Persisted a)
     unfolding slot
-    restored-word a = go (ltb a 64) refl
+    crash-word a = go (ltb a 64) refl
       where
-        go : (s : Bool) → ltb a 64 ≡ s → get (restored m) (word Cached a) ≡ get m (word Persisted a)
+        go : (s : Bool) → ltb a 64 ≡ s → get (crashCopied m) (word Cached a) ≡ get m (word Persisted a)
         go true e =
             let l : a < 64 = ltb-true _ _ e in
             let f : slot (word Cached a) ≡ a = simp e (omega arith) in
@@ -147,11 +147,11 @@ module _ (m : Block) where
             shadow (word Cached a) (word Persisted a) h (omega arith) (omega arith)
         go false e = both-nowhere (word Cached a) (word Persisted a) (simp e) (simp e)
 
-    pub restored-status : (d : ℕ) → get (restored m) (status Cached d) ≡ get m (status Persisted d)
+    pub crash-status : (d : ℕ) → get (crashCopied m) (status Cached d) ≡ get m (status Persisted d)
     unfolding slot
-    restored-status d = go (ltb d 16) refl
+    crash-status d = go (ltb d 16) refl
       where
-        go : (s : Bool) → ltb d 16 ≡ s → get (restored m) (status Cached d) ≡ get m (status Persisted d)
+        go : (s : Bool) → ltb d 16 ≡ s → get (crashCopied m) (status Cached d) ≡ get m (status Persisted d)
         go true e =
             let l : d < 16 = ltb-true _ _ e in
             let f : slot (status Cached d) ≡ 64 + d = simp e (omega arith) in
@@ -159,11 +159,11 @@ module _ (m : Block) where
             shadow (status Cached d) (status Persisted d) h (omega arith) (omega arith)
         go false e = both-nowhere (status Cached d) (status Persisted d) (simp e) (simp e)
 
-    pub restored-body : (d j : ℕ) → get (restored m) (body Cached d j) ≡ get m (body Persisted d j)
+    pub crash-body : (d j : ℕ) → get (crashCopied m) (body Cached d j) ≡ get m (body Persisted d j)
     unfolding slot
-    restored-body d j = go (ltb d 16) (ltb j 13) refl refl
+    crash-body d j = go (ltb d 16) (ltb j 13) refl refl
       where
-        go : (s t : Bool) → ltb d 16 ≡ s → ltb j 13 ≡ t → get (restored m) (body Cached d j) ≡ get m (body Persisted d j)
+        go : (s t : Bool) → ltb d 16 ≡ s → ltb j 13 ≡ t → get (crashCopied m) (body Cached d j) ≡ get m (body Persisted d j)
         go true true e k =
             let l : d < 16 = ltb-true _ _ e in
             let o : j < 13 = ltb-true _ _ k in

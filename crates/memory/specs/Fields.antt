@@ -10,7 +10,7 @@ use borrow.Author.Tests.{lt-ltb, le-ltb, ltb-true, ltb-false}
 use Rattle.memory.specs.declared.Copy.{Copy}
 use Rattle.memory.specs.declared.Copy.the-variants.{Cached, Persisted}
 use Rattle.memory.specs.Block.{Block, Field, nowhere, baseOf, slot, at, store, get, put}
-use Rattle.memory.specs.Block.Field.{word, status, body, worker, size, spot}
+use Rattle.memory.specs.Block.Field.{word, status, body, worker, size, recovery}
 
 -- a block is whole: it has all its numbers
 abbrev pub Whole : Block → Type 0
@@ -29,7 +29,7 @@ fieldAt i =
     cond (ltb i 288) (inCopy Cached i)
     (cond (ltb i 576) (inCopy Persisted (i - 288))
     (cond (ltb i 640) (worker ((i - 576) / 8) ((i - 576) % 8))
-    (cond (ltb i 643) (size (i - 640)) (spot (i - 643)))))
+    (cond (ltb i 643) (size (i - 640)) (recovery (i - 643)))))
 
 in-copy : (c : Copy) (i : ℕ) → i < 288 → fieldAt (baseOf c + i) ≡ inCopy c i
 unfolding fieldAt
@@ -65,9 +65,9 @@ at-size : (j : ℕ) → j < 3 → slot (size j) ≡ 640 + j
 unfolding slot
 at-size j h = simp (lt-ltb _ _ h)
 
-at-spot : (j : ℕ) → j < 3 → slot (spot j) ≡ 643 + j
+at-recovery : (j : ℕ) → j < 3 → slot (recovery j) ≡ 643 + j
 unfolding slot
-at-spot j h = simp (lt-ltb _ _ h)
+at-recovery j h = simp (lt-ltb _ _ h)
 
 -- a field in range stands where `fieldAt` finds it
 module _ (c : Copy) where
@@ -113,16 +113,16 @@ module _ where
       let z : i - 640 ≡ j = omega arith in
       rw (at-size j h) (simp (a, b, c, d, z))
 
-  field-spot : (j : ℕ) → j < 3 → fieldAt (slot (spot j)) ≡ spot j
+  field-recovery : (j : ℕ) → j < 3 → fieldAt (slot (recovery j)) ≡ recovery j
   unfolding fieldAt
-  field-spot j h =
+  field-recovery j h =
       let i = 643 + j in
       let a : ltb i 288 ≡ false = le-ltb i 288 (omega arith) in
       let b : ltb i 576 ≡ false = le-ltb i 576 (omega arith) in
       let c : ltb i 640 ≡ false = le-ltb i 640 (omega arith) in
       let d : ltb i 643 ≡ false = le-ltb i 643 (omega arith) in
       let z : i - 643 ≡ j = omega arith in
-      rw (at-spot j h) (simp (a, b, c, d, z))
+      rw (at-recovery j h) (simp (a, b, c, d, z))
 
 two-ranges : (s t : Bool) (x : ℕ) → cond s (cond t x nowhere) nowhere < nowhere → (s ≡ true) × (t ≡ true)
 two-ranges s t x h = go s (in-range s _ h) h
@@ -138,7 +138,7 @@ field-at (status c d) h = field-status c d (ltb-true _ _ (in-range _ _ h))
 field-at (body c d j) h = let p = two-ranges (ltb d 16) (ltb j 13) _ h in field-body c d j (ltb-true _ _ (p .0)) (ltb-true _ _ (p .1))
 field-at (worker w j) h = let p = two-ranges (ltb w 8) (ltb j 8) _ h in field-worker w j (ltb-true _ _ (p .0)) (ltb-true _ _ (p .1))
 field-at (size j) h = field-size j (ltb-true _ _ (in-range _ _ h))
-field-at (spot j) h = field-spot j (ltb-true _ _ (in-range _ _ h))
+field-at (recovery j) h = field-recovery j (ltb-true _ _ (in-range _ _ h))
 
 -- no two fields in range share a slot
 pub apart : (f g : Field) → Somewhere f → slot f ≡ slot g → f ≡ g
@@ -219,8 +219,8 @@ module _ (m : Block) (f : Field) (h : nowhere ≤ slot f) where
   unfolding store
   put-nowhere v = simp (le-ltb _ _ h)
 
-pub spot-somewhere : (j : ℕ) → j < 3 → Somewhere (spot j)
-spot-somewhere j h = rw (at-spot j h) (omega arith)
+pub recovery-somewhere : (j : ℕ) → j < 3 → Somewhere (recovery j)
+recovery-somewhere j h = rw (at-recovery j h) (omega arith)
 
 pub size-somewhere : (j : ℕ) → j < 3 → Somewhere (size j)
 size-somewhere j h = rw (at-size j h) (omega arith)

@@ -1,4 +1,4 @@
--- The sizes, and a fresh memory: all words 0, all descriptors Free with bodies of zeros, workers idle.
+-- The sizes, and a fresh memory: all words 0, all descriptors Free with bodies of zeros, workers idle; no recovery.
 use Prim.Native.Nat.{ℕ}
 use mathlib.Core.Bool.{Bool, true, false, cond, _&&_}
 use lib.Dec.{ltb, leb}
@@ -10,10 +10,11 @@ use Rattle.memory.specs.Block.Field.{size}
 abbrev pub sizesIn : Block → Sizes
 sizesIn m = record { n = get m (size 0); k = get m (size 1); w = get m (size 2) }
 
--- n is 1 to 64, k is 1 to 16, w is 1 to 8
+-- from 1 to the most
 abbrev pub within : ℕ → ℕ → Bool
 within x most = ltb 0 x && leb x most
 
+-- n is 1 to 64, k is 1 to 16, w is 1 to 8
 abbrev pub goodSizes : ℕ → ℕ → ℕ → Bool
 goodSizes n k w = within n 64 && (within k 16 && within w 8)
 

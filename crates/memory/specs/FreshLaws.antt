@@ -15,10 +15,10 @@ use Rattle.steps.specs.declared.RecoveryPlace.the-variants.{Outside}
 use Rattle.codes.specs.Row.{workerOf, recoveryOf}
 use Rattle.memory.specs.declared.Copy.{Copy}
 use Rattle.memory.specs.declared.Copy.the-variants.{Persisted}
-use Rattle.memory.specs.declared.Entry.{Entry}
+use Rattle.steps.specs.declared.Entry.{Entry}
 use Rattle.memory.specs.declared.Sizes.{Sizes}
 use Rattle.memory.specs.Block.{Block, Field, nowhere, slot, at, get}
-use Rattle.memory.specs.Block.Field.{word, status, body, worker, size, spot}
+use Rattle.memory.specs.Block.Field.{word, status, body, worker, size, recovery}
 use Rattle.memory.specs.Content.{wordIn, statusIn, countIn, entryIn, workerIn, recoveryIn}
 use Rattle.memory.specs.Fresh.{sizesIn, zeros, freshBlock}
 use Rattle.memory.specs.Value.{sortValue, valueOf}
@@ -36,7 +36,7 @@ get-zero f = go (ltb (slot f) nowhere) refl
 clash : _≡_ {A = ℕ} 0 1 → ⊥
 clash e = omega arith
 
--- a size is no other field
+-- the field is no size
 abbrev NoSize : Field → Type 0
 NoSize f = (j : ℕ) → size j ≡ f → ⊥
 
@@ -87,7 +87,7 @@ module _ (n k w : ℕ) where
 
   pub fresh-recovery : recoveryIn (freshBlock n k w) ≡ Outside
   unfolding recoveryOf
-  fresh-recovery = rw (fresh-zero (spot 0) (λ j e. clash (cc)))
+  fresh-recovery = rw (fresh-zero (recovery 0) (λ j e. clash (cc)))
 
   pub fresh-value : (a : ℕ) → valueOf (freshBlock n k w) a ≡ 0
   unfolding valueOf

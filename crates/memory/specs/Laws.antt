@@ -1,34 +1,38 @@
--- Reading what was stored or written back, and reading elsewhere: words, statuses, bodies, workers, sizes, recovery's place.
+-- Words and statuses: reading what was stored or written back. Every thing: it is as it was where its fields are.
 use mathlib.Core.Path.{_≡_, refl, sym, ap, _∙_}
 use mathlib.Core.Bool.{Bool, true, false}
-use Prim.Native.Nat.{ℕ, _+_, _*_, _<_}
+use Prim.Native.Nat.{ℕ, _+_, _*_, _<_, _≤_}
 use native.Mathlib.Omega.{arith}
 use Rattle.word.specs.declared.Sort.{Sort}
+use Rattle.word.specs.declared.Sort.the-variants.{Plain, Pointer, Neither}
 use Rattle.word.specs.declared.Status.{Status}
 use Rattle.word.specs.Word.{sortOf, wordNumber}
 use Rattle.word.specs.Status.{statusOf, statusNumber}
-use Rattle.word.specs.Laws.{Sorted, word-made}
-use Rattle.word.specs.StatusLaws.{StatusSorted, status-made}
+use Rattle.word.specs.Laws.{Formed, word-made}
+use Rattle.word.specs.StatusLaws.{StatusFormed, status-made}
 use Rattle.codes.specs.Row.{workerOf, recoveryOf}
 use Rattle.memory.specs.declared.Copy.{Copy}
 use Rattle.memory.specs.declared.Copy.the-variants.{Cached, Persisted}
-use Rattle.memory.specs.declared.Entry.{Entry}
+use Rattle.steps.specs.declared.Entry.{Entry}
+use Rattle.memory.specs.declared.Found.{Found}
+use Rattle.memory.specs.declared.Found.the-variants.{Here, Missing}
 use Rattle.memory.specs.Block.{Block, Field, get, put}
-use Rattle.memory.specs.Block.Field.{word, status, body, worker, size, spot}
+use Rattle.memory.specs.Block.Field.{word, status, body, worker, size, recovery}
 use Rattle.memory.specs.Fresh.{sizesIn}
+use Rattle.memory.specs.Value.{entryFor, foundValue, pointerValue, sortValue, valueOf}
 use Rattle.memory.specs.Content.{wordIn, putWord, backWord, statusIn, putStatus, backStatus, countIn, entryIn, rowIn, workerIn, recoveryIn}
 use Rattle.memory.specs.Fields.{Whole, word-somewhere, status-somewhere, get-put, get-other}
 
 module _ (m : Block) (h : Whole m) where
   module _ (a : ℕ) (l : a < 64) where
-    pub word-stored : (s : Sort) → Sorted s → wordIn Cached (putWord m a s) a ≡ s
+    pub word-stored : (s : Sort) → Formed s → wordIn Cached (putWord m a s) a ≡ s
     word-stored s k = ap sortOf (get-put m (word Cached a) (wordNumber s) h (word-somewhere Cached a l)) ∙ word-made s k
 
     pub word-backed : wordIn Persisted (backWord m a) a ≡ wordIn Cached m a
     word-backed = ap sortOf (get-put m (word Persisted a) (get m (word Cached a)) h (word-somewhere Persisted a l))
 
   module _ (d : ℕ) (l : d < 16) where
-    pub status-stored : (s : Status) → StatusSorted s → statusIn Cached (putStatus m d s) d ≡ s
+    pub status-stored : (s : Status) → StatusFormed s → statusIn Cached (putStatus m d s) d ≡ s
     status-stored s k = ap statusOf (get-put m (status Cached d) (statusNumber s) h (status-somewhere Cached d l)) ∙ status-made s k
 
     pub status-backed : statusIn Persisted (backStatus m d) d ≡ statusIn Cached m d
@@ -42,9 +46,10 @@ module _ (m x : Block) where
   pub same-status : (c : Copy) (d : ℕ) → get x (status c d) ≡ get m (status c d) → statusIn c x d ≡ statusIn c m d
   same-status c d e = ap statusOf e
 
-  pub same-entry : (c : Copy) (d i : ℕ) → ((j : ℕ) → get x (body c d j) ≡ get m (body c d j)) → entryIn c x d i ≡ entryIn c m d i
+  pub same-entry : (c : Copy) (d i : ℕ) → ((j : ℕ) → 3 * i < j → j ≤ 3 + 3 * i → get x (body c d j) ≡ get m (body c d j)) → entryIn c x d i ≡ entryIn c m d i
   unfolding entryIn
-  same-entry c d i e = rw (e (1 + 3 * i), e (2 + 3 * i), e (3 + 3 * i))
+  same-entry c d i e =
+      rw (e (1 + 3 * i) (omega arith) (omega arith), e (2 + 3 * i) (omega arith) (omega arith), e (3 + 3 * i) (omega arith) (omega arith))
 
   pub same-worker : (w : ℕ) → ((j : ℕ) → get x (worker w j) ≡ get m (worker w j)) → workerIn x w ≡ workerIn m w
   same-worker w e = rw (e 0, e 1, e 2, e 3, e 4, e 5)
@@ -52,5 +57,31 @@ module _ (m x : Block) where
   pub same-sizes : ((j : ℕ) → get x (size j) ≡ get m (size j)) → sizesIn x ≡ sizesIn m
   same-sizes e = rw (e 0, e 1, e 2)
 
-  pub same-recovery : ((j : ℕ) → get x (spot j) ≡ get m (spot j)) → recoveryIn x ≡ recoveryIn m
+  pub same-recovery : ((j : ℕ) → get x (recovery j) ≡ get m (recovery j)) → recoveryIn x ≡ recoveryIn m
   same-recovery e = rw (e 0, e 1, e 2)
+
+-- the value of a word depends on persisted fields alone
+module _ (m x : Block) where
+  pub same-found : (c : Copy) (d a : ℕ) → ((j : ℕ) → get x (body c d j) ≡ get m (body c d j)) → entryFor c x d a ≡ entryFor c m d a
+  unfolding entryFor
+  same-found c d a e =
+      let n = e 0 in
+      rw (same-entry m x c d 0 (λ j h l. e j), same-entry m x c d 1 (λ j h l. e j), same-entry m x c d 2 (λ j h l. e j), same-entry m x c d 3 (λ j h l. e j), n)
+
+  same-pointer : (d a : ℕ) → ((f : Copy → Field) → get x (f Persisted) ≡ get m (f Persisted)) → pointerValue x d a ≡ pointerValue m d a
+  same-pointer d a e =
+      rw (same-found Persisted d a (λ j. e (λ c. body c d j)))
+      (go (entryFor Persisted m d a))
+    where
+      go : (o : Found) → foundValue x d o ≡ foundValue m d o
+      go (Here i) = rw (e (λ c. status c d), same-entry m x Persisted d i (λ j h l. e (λ c. body c d j)))
+      go Missing = refl
+
+  pub same-value : (a : ℕ) → ((f : Copy → Field) → get x (f Persisted) ≡ get m (f Persisted)) → valueOf x a ≡ valueOf m a
+  unfolding valueOf
+  same-value a e = rw (e (λ c. word c a)) (go (wordIn Persisted m a))
+    where
+      go : (s : Sort) → sortValue x a s ≡ sortValue m a s
+      go (Plain v dirty) = refl
+      go (Pointer d dirty) = same-pointer d a e
+      go (Neither w) = refl

@@ -10,17 +10,17 @@ use Rattle.steps.specs.declared.Worker.{Worker}
 use Rattle.steps.specs.declared.Worker.the-variants.{Idle}
 use Rattle.steps.specs.declared.RecoveryPlace.{RecoveryPlace}
 use Rattle.codes.specs.declared.Row.{Row}
-use Rattle.codes.specs.Row.{workerOf, rowOf, recoveryOf, spotOf}
+use Rattle.codes.specs.Row.{workerOf, rowOf, recoveryOf, recoveryRow}
 use Rattle.codes.specs.Round.{worker-round, recovery-round}
 use Rattle.memory.specs.declared.Copy.the-variants.{Cached, Persisted}
-use Rattle.memory.specs.declared.Entry.{Entry}
+use Rattle.steps.specs.declared.Entry.{Entry}
 use Rattle.memory.specs.Block.{Block, Field, slot, get, put}
-use Rattle.memory.specs.Block.Field.{body, worker, spot}
-use Rattle.memory.specs.Content.{entryIn, putEntry, clearedTo, rowIn, workerIn, putRow, putWorker, idled, spotIn, recoveryIn, putRecovery}
+use Rattle.memory.specs.Block.Field.{body, worker, recovery}
+use Rattle.memory.specs.Content.{entryIn, putEntry, clearedTo, rowIn, workerIn, putRow, putWorker, idled, recoveryRowIn, recoveryIn, putRecovery}
 use Rattle.memory.specs.Laws.{same-worker}
-use Rattle.memory.specs.Fields.{Whole, Somewhere, body-somewhere, worker-somewhere, spot-somewhere, length-put, whole-put, get-put, get-other}
+use Rattle.memory.specs.Fields.{Whole, Somewhere, body-somewhere, worker-somewhere, recovery-somewhere, length-put, whole-put, get-put, get-other}
 
--- three fields, the last two not the first
+-- three fields, one after the other
 module _ (m : Block) (f g k : Field) (x y z : ℕ) where
   abbrev pub three : Block
   three = put (put (put m f x) g y) k z
@@ -51,8 +51,8 @@ worker-parts w i j n e = let z : i ≡ j = cc in n z
 pub workers-apart : (v w i j : ℕ) → (v ≡ w → ⊥) → worker v i ≡ worker w j → ⊥
 workers-apart v w i j n e = let z : v ≡ w = cc in n z
 
-spot-parts : (i j : ℕ) → (i ≡ j → ⊥) → spot i ≡ spot j → ⊥
-spot-parts i j n e = let z : i ≡ j = cc in n z
+recovery-parts : (i j : ℕ) → (i ≡ j → ⊥) → recovery i ≡ recovery j → ⊥
+recovery-parts i j n e = let z : i ≡ j = cc in n z
 
 -- an entry
 module _ (m : Block) (d i : ℕ) (e : Entry) where
@@ -100,18 +100,20 @@ module _ (m : Block) (d : ℕ) where
           let z : n ≡ j → ⊥ = eqb-false _ _ e in
           get-other _ (body Cached d n) 0 (body Cached d j) (body-parts d n j z) ∙ r (omega arith)
 
--- a worker's record: two times three numbers
+-- a worker's row: two times three numbers
 module _ (m : Block) (w : ℕ) (r : Row) where
   abbrev half : Block
-  half = three m (worker w 0) (worker w 1) (worker w 2) (r .kind) (r .own) (r .job)
+  half = three m (worker w 0) (worker w 1) (worker w 2) (r .tag) (r .own) (r .job)
 
   pub row-whole : Whole m → Whole (putRow m w r)
   unfolding putRow
   row-whole h = three-whole half _ _ _ _ _ _ (three-whole m _ _ _ _ _ _ h)
 
-  pub row-other : (o : Field) → ((j : ℕ) → worker w j ≡ o → ⊥) → get (putRow m w r) o ≡ get m o
+  pub row-other : (o : Field) → ((j : ℕ) → j < 6 → worker w j ≡ o → ⊥) → get (putRow m w r) o ≡ get m o
   unfolding putRow
-  row-other o n = three-other half _ _ _ _ _ _ o (n 3) (n 4) (n 5) ∙ three-other m _ _ _ _ _ _ o (n 0) (n 1) (n 2)
+  row-other o n =
+      three-other half _ _ _ _ _ _ o (n 3 (omega arith)) (n 4 (omega arith)) (n 5 (omega arith))
+      ∙ three-other m _ _ _ _ _ _ o (n 0 (omega arith)) (n 1 (omega arith)) (n 2 (omega arith))
 
   module _ (h : Whole m) (l : w < 8) where
     part : (i j : ℕ) → eqb i j ≡ false → worker w i ≡ worker w j → ⊥
@@ -124,8 +126,8 @@ module _ (m : Block) (w : ℕ) (r : Row) where
     unfolding putRow
     upper j e f g = three-other half _ _ _ _ _ _ (worker w j) (part 3 j e) (part 4 j f) (part 5 j g)
 
-    row-kind : get (putRow m w r) (worker w 0) ≡ r .kind
-    row-kind = upper 0 refl refl refl ∙ three-first m _ _ _ _ _ _ h (there 0 (omega arith)) (part 1 0 refl) (part 2 0 refl)
+    row-tag : get (putRow m w r) (worker w 0) ≡ r .tag
+    row-tag = upper 0 refl refl refl ∙ three-first m _ _ _ _ _ _ h (there 0 (omega arith)) (part 1 0 refl) (part 2 0 refl)
 
     row-own : get (putRow m w r) (worker w 1) ≡ r .own
     row-own = upper 1 refl refl refl ∙ three-second m _ _ _ _ _ _ h (there 1 (omega arith)) (part 2 1 refl)
@@ -146,7 +148,7 @@ module _ (m : Block) (w : ℕ) (r : Row) where
     row-noted = three-third half _ _ _ _ _ _ (three-whole m _ _ _ _ _ _ h) (there 5 (omega arith))
 
     pub row-stored : rowIn (putRow m w r) w ≡ r
-    row-stored = rw (row-kind, row-own, row-job, row-place, row-entry, row-noted)
+    row-stored = rw (row-tag, row-own, row-job, row-place, row-entry, row-noted)
 
 pub worker-stored : (m : Block) (w : ℕ) (x : Worker) → Whole m → w < 8 → workerIn (putWorker m w x) w ≡ x
 worker-stored m w x h l = ap workerOf (row-stored m w (rowOf x) h l) ∙ worker-round x
@@ -161,7 +163,7 @@ module _ (m : Block) where
   pub idled-other : (n : ℕ) (o : Field) → ((w j : ℕ) → worker w j ≡ o → ⊥) → get (idled m n) o ≡ get m o
   unfolding idled
   idled-other zero o k = refl
-  idled-other (suc n) o k = row-other _ n (rowOf Idle) o (k n) ∙ idled-other n o k
+  idled-other (suc n) o k = row-other _ n (rowOf Idle) o (λ j l. k n j) ∙ idled-other n o k
 
   pub idled-idle : (n w : ℕ) → Whole m → n ≤ 8 → w < n → workerIn (idled m n) w ≡ Idle
   unfolding idled
@@ -172,20 +174,20 @@ module _ (m : Block) where
       go true e r = let z : n ≡ w = eqb-true _ _ e in rw (← z) (worker-stored _ n Idle (idled-whole n h) (omega arith))
       go false e r =
           let z : n ≡ w → ⊥ = eqb-false _ _ e in
-          same-worker (idled m n) _ w (λ j. row-other _ n (rowOf Idle) (worker w j) (λ i. workers-apart n w i j z)) ∙ r (omega arith)
+          same-worker (idled m n) _ w (λ j. row-other _ n (rowOf Idle) (worker w j) (λ i l. workers-apart n w i j z)) ∙ r (omega arith)
 
 -- recovery's place
 module _ (m : Block) (p : RecoveryPlace) where
   pub recovery-stored : Whole m → recoveryIn (putRecovery m p) ≡ p
   recovery-stored h =
       rw (
-        three-first m (spot 0) (spot 1) (spot 2) _ _ _ h (spot-somewhere 0 (omega arith)) (spot-parts 1 0 (omega arith)) (spot-parts 2 0 (omega arith)),
-        three-second m (spot 0) (spot 1) (spot 2) _ _ _ h (spot-somewhere 1 (omega arith)) (spot-parts 2 1 (omega arith)),
-        three-third m (spot 0) (spot 1) (spot 2) _ _ _ h (spot-somewhere 2 (omega arith)),
+        three-first m (recovery 0) (recovery 1) (recovery 2) _ _ _ h (recovery-somewhere 0 (omega arith)) (recovery-parts 1 0 (omega arith)) (recovery-parts 2 0 (omega arith)),
+        three-second m (recovery 0) (recovery 1) (recovery 2) _ _ _ h (recovery-somewhere 1 (omega arith)) (recovery-parts 2 1 (omega arith)),
+        three-third m (recovery 0) (recovery 1) (recovery 2) _ _ _ h (recovery-somewhere 2 (omega arith)),
       )
       (recovery-round p)
 
-  pub recovery-other : (o : Field) → ((j : ℕ) → spot j ≡ o → ⊥) → get (putRecovery m p) o ≡ get m o
+  pub recovery-other : (o : Field) → ((j : ℕ) → recovery j ≡ o → ⊥) → get (putRecovery m p) o ≡ get m o
   recovery-other o n = three-other m _ _ _ _ _ _ o (n 0) (n 1) (n 2)
 
   pub recovery-whole : Whole m → Whole (putRecovery m p)

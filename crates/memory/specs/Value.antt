@@ -10,7 +10,7 @@ use Rattle.word.specs.declared.Status.{Status}
 use Rattle.word.specs.declared.Status.the-variants.{Free, Undecided, Decided, Bad}
 use Rattle.memory.specs.declared.Copy.{Copy}
 use Rattle.memory.specs.declared.Copy.the-variants.{Persisted}
-use Rattle.memory.specs.declared.Entry.{Entry}
+use Rattle.steps.specs.declared.Entry.{Entry}
 use Rattle.memory.specs.declared.Found.{Found}
 use Rattle.memory.specs.declared.Found.the-variants.{Here, Missing}
 use Rattle.memory.specs.Block.{Block}
@@ -43,7 +43,7 @@ succeeded (Bad x) = false
 abbrev pub entryValue : Status → Entry → ℕ
 entryValue s e = cond (succeeded s) (e .desired) (e .expected)
 
--- of a pointer without an entry for its address, which no reachable memory holds: 0
+-- a pointer without an entry for its address is given the value 0
 abbrev pub foundValue : Block → ℕ → Found → ℕ
 foundValue m d (Here i) = entryValue (statusIn Persisted m d) (entryIn Persisted m d i)
 foundValue m d Missing = 0
@@ -51,7 +51,7 @@ foundValue m d Missing = 0
 abbrev pub pointerValue : Block → ℕ → ℕ → ℕ
 pointerValue m d a = foundValue m d (entryFor Persisted m d a)
 
--- a plain word without its dirty bit; for a pointer to d, d's entry for that address; of a number that is neither: 0
+-- a plain word without its dirty bit; for a pointer to d, desired or expected of d's entry for that address; a number that is neither is given the value 0
 abbrev pub sortValue : Block → ℕ → Sort → ℕ
 sortValue m a (Plain v dirty) = v
 sortValue m a (Pointer d dirty) = pointerValue m d a

@@ -1,16 +1,16 @@
 // Bodies: a count and four entries.
 use crate::Copy;
-use crate::Entry;
 use crate::Found;
 use crate::Memory;
 use crate::block::body_slot;
 use crate::block::load;
 use crate::block::save;
+use steps::Entry;
 ghost use mathlib.Core.Path.{_≡_};
 ghost use Prim.Native.Nat.{_+_, _≤_};
 ghost use Rattle.memory.specs.Block.{get, put};
 ghost use Rattle.memory.specs.Block.Field.{body};
-ghost use Rattle.memory.specs.Content.{countIn, putCount, entryIn, putEntry, clearBody, copied, backBody, restored};
+ghost use Rattle.memory.specs.Content.{countIn, putCount, entryIn, putEntry, clearBody, copied, backBody, crashCopied};
 ghost use Rattle.memory.specs.Value.{hasAt, entryFor};
 
 // Number j of a body: 0 the count, then three numbers an entry.
@@ -80,7 +80,7 @@ pub fn clear_body(m: &mut Memory, d: u64)
     }
 }
 
-fn copy(m: &mut Memory, from: usize, to: usize, n: usize)
+fn copy_numbers(m: &mut Memory, from: usize, to: usize, n: usize)
     requires { ⌜ (from ≤ 646) × ((to ≤ 646) × (n ≤ 288)) ⌝ }
     ensures { λ _. ⌜ now (m .exit) ≡ copied (now (m .entry)) from to n ⌝ }
 {
@@ -97,14 +97,14 @@ pub fn back_body(m: &mut Memory, d: u64)
 {
     let from = body_slot(Copy::Cached, d, 0);
     let to = body_slot(Copy::Persisted, d, 0);
-    copy(m, from, to, 13);
+    copy_numbers(m, from, to, 13);
 }
 
 // A crash's copying: every cached word, status and body becomes the persisted one.
-pub fn restore(m: &mut Memory)
-    ensures { λ _. ⌜ now (m .exit) ≡ restored (now (m .entry)) ⌝ }
+pub fn crash_copy(m: &mut Memory)
+    ensures { λ _. ⌜ now (m .exit) ≡ crashCopied (now (m .entry)) ⌝ }
 {
-    copy(m, 288, 0, 288);
+    copy_numbers(m, 288, 0, 288);
 }
 
 // Whether entry i is one of the body's, and for address a.

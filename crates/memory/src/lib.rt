@@ -1,5 +1,6 @@
 // The whole machine in one lent block: every word, status and body in a cached and a persisted copy, the workers, the sizes and
-// recovery's place. Only this crate knows where each number stands. Out of range reads 0, and a store there changes nothing.
+// recovery's place. Only this crate knows where each number stands. Past the 64 words, 16 descriptors
+// and 8 workers that a block has room for, 0 is read, and a store changes nothing.
 mod begin;
 mod block;
 mod bodies;
@@ -11,12 +12,12 @@ pub use begin::fresh;
 pub use begin::read_sizes;
 pub use bodies::back_body;
 pub use bodies::clear_body;
+pub use bodies::crash_copy;
 pub use bodies::find_entry;
 pub use bodies::put_count;
 pub use bodies::put_entry;
 pub use bodies::read_count;
 pub use bodies::read_entry;
-pub use bodies::restore;
 pub use value::value_of;
 pub use words::back_status;
 pub use words::back_word;
@@ -44,13 +45,6 @@ pub struct Sizes {
     pub n: u64,
     pub k: u64,
     pub w: u64,
-}
-
-// An entry of a body.
-pub struct Entry {
-    pub address: u64,
-    pub expected: u64,
-    pub desired: u64,
 }
 
 // Where in a body an address is: the entry's number from 0.

@@ -1,12 +1,12 @@
 // The value of a word.
 use crate::Copy;
-use crate::Entry;
 use crate::Found;
 use crate::Memory;
 use crate::bodies::find_entry;
 use crate::bodies::read_entry;
 use crate::words::read_status;
 use crate::words::read_word;
+use steps::Entry;
 use word::Outcome;
 use word::Sort;
 use word::Status;

@@ -3,11 +3,11 @@ use crate::Memory;
 use crate::block::load;
 use crate::block::save;
 use crate::block::worker_slot;
+use codes::RecoveryRow;
 use codes::Row;
-use codes::Spot;
 use codes::recovery_of;
+use codes::recovery_row;
 use codes::row_of;
-use codes::spot_of;
 use codes::worker_of;
 use steps::RecoveryPlace;
 use steps::Worker;
@@ -34,7 +34,7 @@ pub fn read_worker(m: &Memory, w: u64) -> Worker
     ensures { λ r. ⌜ r ≡ workerIn (now (m .entry)) w ⌝ }
 {
     let r = Row {
-        kind: number(m, w, 0),
+        tag: number(m, w, 0),
         own: number(m, w, 1),
         job: number(m, w, 2),
         place: number(m, w, 3),
@@ -48,7 +48,7 @@ pub fn put_worker(m: &mut Memory, w: u64, x: Worker)
     ensures { λ _. ⌜ now (m .exit) ≡ putWorker (now (m .entry)) w x ⌝ }
 {
     let r = row_of(x);
-    put_number(m, w, 0, r.kind);
+    put_number(m, w, 0, r.tag);
     put_number(m, w, 1, r.own);
     put_number(m, w, 2, r.job);
     put_number(m, w, 3, r.place);
@@ -70,7 +70,7 @@ pub fn idle_workers(m: &mut Memory)
 pub fn read_recovery(m: &Memory) -> RecoveryPlace
     ensures { λ r. ⌜ r ≡ recoveryIn (now (m .entry)) ⌝ }
 {
-    let s = Spot {
+    let s = RecoveryRow {
         on: load(m, 643),
         descriptor: load(m, 644),
         done: load(m, 645),
@@ -81,7 +81,7 @@ pub fn read_recovery(m: &Memory) -> RecoveryPlace
 pub fn put_recovery(m: &mut Memory, p: RecoveryPlace)
     ensures { λ _. ⌜ now (m .exit) ≡ putRecovery (now (m .entry)) p ⌝ }
 {
-    let s = spot_of(p);
+    let s = recovery_row(p);
     save(m, 643, s.on);
     save(m, 644, s.descriptor);
     save(m, 645, s.done);

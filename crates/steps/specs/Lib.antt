@@ -1,2 +1,5 @@
 pub mod Place
+pub mod Plan
+pub mod Operation
+pub mod Recovery
 pub mod Coincide

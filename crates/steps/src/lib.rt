@@ -1,27 +1,38 @@
-// Where a worker stands: the steps of an operation, the read, and recovery (document 01, "The steps of an operation d").
-// No memory here.
+// Where a worker stands, and what its next step does: the steps of an operation, the read, and recovery (document 01, "The steps of
+// an operation d"). No memory here: a plan is made from what a step sees, and has at most one effect.
+mod common;
+mod operation;
+mod recovery;
+
+pub use common::read_clear_plan;
+pub use common::read_plan;
+pub use operation::plan_step;
+pub use recovery::recovery_plan;
 use word::Outcome;
+use word::Sort;
+use word::Status;
 ghost use mathlib.Core.Path.{_≡_};
 ghost use Rattle.steps.specs.Place.{stepNumber};
 
-// A place in the steps of an operation: what its next step does. A number is the entry, counted from 0.
+// A place in the steps of an operation: which step is next. Its first number is the entry, counted from 0. What the step does, and
+// its tests, are in specs/Operation.antt.
 pub enum Place {
     // 1. Owner only: write back the body; store Undecided; write back the status
     BackBody,
     StoreUndecided,
     BackUndecided,
-    // 2. Install an entry; clear the dirty mark of the plain word that was written back there, where it still holds that value
+    // 2. Install an entry; clear the dirty bit of the plain word that was written back there (the second number is its value)
     Install(u64),
     InstallClear(u64, u64),
-    // 3. Write back an entry's word; clear its dirty mark
+    // 3. Write back an entry's word; clear its dirty bit
     Persist(u64),
     PersistClear(u64),
     // 4. Store the outcome
     Decide(Outcome),
-    // 5. Write back the status; clear its dirty mark
+    // 5. Write back the status; clear its dirty bit
     Settle,
     SettleClear,
-    // 6. Swap an entry's pointer for its value; write back the word; clear its dirty mark
+    // 6. Swap an entry's pointer for its value; write back the word; clear its dirty bit
     Swap(u64),
     SwapBack(u64),
     SwapClear(u64),
@@ -53,6 +64,77 @@ pub enum Worker {
 pub enum RecoveryPlace {
     Outside,
     At(u64, u64),
+}
+
+// An entry of a body.
+pub struct Entry {
+    pub address: u64,
+    pub expected: u64,
+    pub desired: u64,
+}
+
+// What a step of an operation looks at: the status of its descriptor, the count, the entry that it is at, the word at that entry's address.
+pub struct Seen {
+    pub status: Status,
+    pub count: u64,
+    pub entry: Entry,
+    pub word: Sort,
+}
+
+// What a step does to memory: nothing, a store to the word at an address or to the descriptor's status, a write-back of one of these or of the body.
+pub enum Effect {
+    Nothing,
+    StoreWord(u64, Sort),
+    BackWord(u64),
+    StoreStatus(Status),
+    BackStatus,
+    BackBody,
+}
+
+// What comes after a step of an operation.
+pub enum Next {
+    // the same job goes on at this place
+    Go(Place),
+    // the current job becomes this operation, at its install 0
+    Help(u64),
+    // a helper is done: back to its own job's start
+    Over,
+    // the owner waits where it is
+    Wait,
+    // the owner answers and is idle
+    Answer(Outcome),
+}
+
+// The entry after one, if there is one.
+pub enum More {
+    Then(u64),
+    Done,
+}
+
+pub struct Plan {
+    pub effect: Effect,
+    pub next: Next,
+}
+
+// What comes after a step of a read.
+pub enum ReadNext {
+    // the current job becomes this operation, at its install 0
+    Meet(u64),
+    // the clearing step, with the value first seen
+    Clear(u64),
+    // this value is the answer
+    Value(u64),
+}
+
+pub struct ReadPlan {
+    pub effect: Effect,
+    pub next: ReadNext,
+}
+
+// A step of recovery, and whether it is the descriptor's last.
+pub struct RecoveryPlan {
+    pub effect: Effect,
+    pub last: bool,
 }
 
 // The number of the step, 1 to 7, that a place belongs to.

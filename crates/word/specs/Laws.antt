@@ -9,16 +9,16 @@ use Rattle.word.specs.Word.{bit, marked, sortOf, wordNumber, wordCleared
 use Rattle.word.specs.Bits.{sorted-by, by-bits}
 
 -- what sorting a number can answer: a value or a descriptor's number is below 2 ^ 61
-abbrev pub Sorted : Sort → Type 0
-Sorted (Plain v dirty) = v < 2 ^ 61
-Sorted (Pointer d dirty) = d < 2 ^ 61
-Sorted (Neither w) = bit 61 w ≡ true
+abbrev pub Formed : Sort → Type 0
+Formed (Plain v dirty) = v < 2 ^ 61
+Formed (Pointer d dirty) = d < 2 ^ 61
+Formed (Neither w) = bit 61 w ≡ true
 
-pub sort-sorted : (w : ℕ) → w < 2 ^ 64 → Sorted (sortOf w)
-sort-sorted w h = by-bits w h Sorted (λ e. e) (λ n c l e f. l) (λ n c l e f. l)
+pub sort-formed : (w : ℕ) → w < 2 ^ 64 → Formed (sortOf w)
+sort-formed w h = by-bits w h Formed (λ e. e) (λ n c l e f. l) (λ n c l e f. l)
 
 -- the sort of what was made is what was made
-pub word-made : (s : Sort) → Sorted s → sortOf (wordNumber s) ≡ s
+pub word-made : (s : Sort) → Formed s → sortOf (wordNumber s) ≡ s
 unfolding sortOf
 word-made (Plain v true) h = let e : v % 2 ^ 61 ≡ v = omega arith in rw e (sorted-by (2 ^ 63 + v) 4 v h (omega arith))
 word-made (Plain v false) h = let e : v % 2 ^ 61 ≡ v = omega arith in rw e (sorted-by v 0 v h (omega arith))

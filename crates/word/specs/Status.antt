@@ -7,7 +7,7 @@ use Rattle.word.specs.declared.Outcome.{Outcome}
 use Rattle.word.specs.declared.Outcome.the-variants.{Succeeded, Failed}
 use Rattle.word.specs.declared.Status.{Status}
 use Rattle.word.specs.declared.Status.the-variants.{Free, Undecided, Decided, Bad}
-use Rattle.word.specs.Word.{bit, marked}
+use Rattle.word.specs.Word.{marked}
 
 -- what a number below 2 ^ 64 is as a status
 unfoldable pub statusOf : ℕ → Status

@@ -13,14 +13,14 @@ use Rattle.word.specs.Word.{marked}
 use Rattle.word.specs.Status.{statusOf, statusNumber, statusCleared, outcomeNumber}
 
 -- what sorting a number can answer: Bad stands only on a number that is no status
-abbrev pub StatusSorted : Status → Type 0
-StatusSorted Free = Unit
-StatusSorted Undecided = Unit
-StatusSorted (Decided o dirty) = Unit
-StatusSorted (Bad x) = statusOf x ≡ Bad x
+abbrev pub StatusFormed : Status → Type 0
+StatusFormed Free = Unit
+StatusFormed Undecided = Unit
+StatusFormed (Decided o dirty) = Unit
+StatusFormed (Bad x) = statusOf x ≡ Bad x
 
 -- the sort of what was made is what was made
-pub status-made : (s : Status) → StatusSorted s → statusOf (statusNumber s) ≡ s
+pub status-made : (s : Status) → StatusFormed s → statusOf (statusNumber s) ≡ s
 unfolding statusOf
 status-made Free h = refl
 status-made Undecided h = refl
@@ -66,6 +66,9 @@ status-back x h = by-tests x (λ s. statusNumber s ≡ x) (λ e. sym e) (λ e. s
 pub same-status : (x y : ℕ) → x < 2 ^ 64 → y < 2 ^ 64 → statusOf x ≡ statusOf y → x ≡ y
 same-status x y h l e = sym (status-back x h) ∙ ap statusNumber e ∙ status-back y l
 
+pub status-formed : (x : ℕ) → StatusFormed (statusOf x)
+status-formed x = by-tests x StatusFormed (λ e. tt) (λ e. tt) (λ o c e f. tt) (λ e. e)
+
 -- clearing takes bit 63 off a status and changes no other bit; a number that is no status stays
 abbrev pub Good : Status → Type 0
 Good Free = Unit
@@ -80,3 +83,6 @@ status-cleared x =
     (λ e g. omega arith)
     (λ o c e f g. sym e)
     (λ e g. omega arith)
+
+pub bad-cleared : (x : ℕ) → statusOf x ≡ Bad x → statusCleared (statusOf x) ≡ Bad x
+bad-cleared x e = ap statusCleared e

@@ -15,7 +15,7 @@ abbrev pub marked : Bool → ℕ → ℕ
 marked true n = 2 ^ 63 + n
 marked false n = n
 
--- what a number is as a word: neither plain nor pointer exactly where the reserved bit is set
+-- what a number below 2 ^ 64 is as a word: neither plain nor pointer exactly where the reserved bit is set
 unfoldable pub sortOf : ℕ → Sort
 sortOf w =
     cond (bit 61 w) (Neither w)

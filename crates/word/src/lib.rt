@@ -10,7 +10,7 @@ const POINTER: u64 = 1 << 62;
 
 const RESERVED: u64 = 1 << 61;
 
-// A word: a plain value or a pointer to a descriptor, each with its dirty mark; or a number that is neither, whole.
+// A word: a plain value or a pointer to a descriptor, each with its dirty bit; or a number that is neither, whole.
 pub enum Sort {
     Plain(u64, bool),
     Pointer(u64, bool),
@@ -23,7 +23,7 @@ pub enum Outcome {
     Failed,
 }
 
-// A status: the dirty mark stands on Succeeded and Failed only; Bad is a number that is no status, whole.
+// A status: the dirty bit stands on Succeeded and Failed only; Bad is a number that is no status, whole.
 pub enum Status {
     Free,
     Undecided,
@@ -76,7 +76,7 @@ pub fn word_number(s: Sort) -> u64
     }
 }
 
-// The word with its dirty mark cleared.
+// The word with its dirty bit cleared.
 pub fn word_cleared(s: Sort) -> Sort
     ensures { λ r. ⌜ r ≡ wordCleared s ⌝ }
 {
@@ -136,7 +136,7 @@ pub fn status_number(s: Status) -> u64
     }
 }
 
-// The status with its dirty mark cleared.
+// The status with its dirty bit cleared.
 pub fn status_cleared(s: Status) -> Status
     ensures { λ r. ⌜ r ≡ statusCleared s ⌝ }
 {

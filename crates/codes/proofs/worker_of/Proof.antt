@@ -1,4 +1,4 @@
-use Rattle.codes.proofs.Laws.{kind-building, kind-operation, kind-read, kind-reading, kind-clear, kind-other}
+use Rattle.codes.proofs.Laws.{tag-building, tag-operation, tag-read, tag-reading, tag-clear, tag-other}
 use borrow.Author.Needs.{needs}
 use Rattle.codes.proofs.worker_of.Statement.{statement}
 use Rattle.codes.proofs.worker_of.Tie as tie
@@ -12,27 +12,27 @@ place-of-requires c κs = search needs
 
 -- src/lib.rt:125:1
 returns : tie.Need-returns
-returns c = search (needs, kind-building)
+returns c = search (needs, tag-building)
 
 -- src/lib.rt:125:1
 returns-2 : tie.Need-returns-2
-returns-2 c = search (needs, kind-operation)
+returns-2 c = search (needs, tag-operation)
 
 -- src/lib.rt:125:1
 returns-3 : tie.Need-returns-3
-returns-3 c = search (needs, kind-read)
+returns-3 c = search (needs, tag-read)
 
 -- src/lib.rt:125:1
 returns-4 : tie.Need-returns-4
-returns-4 c = search (needs, kind-reading)
+returns-4 c = search (needs, tag-reading)
 
 -- src/lib.rt:125:1
 returns-5 : tie.Need-returns-5
-returns-5 c = search (needs, kind-clear)
+returns-5 c = search (needs, tag-clear)
 
 -- src/lib.rt:125:1
 returns-6 : tie.Need-returns-6
-returns-6 c = search (needs, kind-other)
+returns-6 c = search (needs, tag-other)
 
 pub worker-of-spec : {M : Type 1} → statement M
 worker-of-spec =

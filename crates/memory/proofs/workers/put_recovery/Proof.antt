@@ -4,12 +4,12 @@ use Rattle.memory.proofs.workers.put_recovery.Statement.{statement}
 use Rattle.memory.proofs.workers.put_recovery.Tie as tie
 use Rattle.memory.proofs.workers.put_recovery.Reads as reads
 use Rattle.memory.proofs.workers.put_recovery.Lts as lts
-use Rattle.codes.proofs.spot_of.Reads as spot-of-reads
+use Rattle.codes.proofs.recovery_row.Reads as recovery-row-reads
 use Rattle.memory.proofs.block.save.Reads as save-reads
 
 -- src/workers.rt:72:9
-spot-of-requires : tie.Need-spot-of-requires
-spot-of-requires c κs = search needs
+recovery-row-requires : tie.Need-recovery-row-requires
+recovery-row-requires c κs = search needs
 
 -- src/workers.rt:73:5
 save-requires : tie.Need-save-requires
@@ -29,4 +29,4 @@ returns c = search (needs, recovery-put)
 
 pub put-recovery-spec : {M : Type 1} → statement M
 put-recovery-spec =
-    tie.close (tie.spec spot-of-requires save-requires save-requires-2 save-requires-3 returns)
+    tie.close (tie.spec recovery-row-requires save-requires save-requires-2 save-requires-3 returns)

@@ -4,10 +4,10 @@ use native.Mathlib.Omega.{arith}
 use Rattle.memory.specs.Content.{copied}
 use Rattle.memory.proofs.BodyLaws.{copied-next, copied-end}
 use borrow.Author.Needs.{needs}
-use Rattle.memory.proofs.bodies.copy.Statement.{statement}
-use Rattle.memory.proofs.bodies.copy.Tie as tie
-use Rattle.memory.proofs.bodies.copy.Reads as reads
-use Rattle.memory.proofs.bodies.copy.Lts as lts
+use Rattle.memory.proofs.bodies.copy_numbers.Statement.{statement}
+use Rattle.memory.proofs.bodies.copy_numbers.Tie as tie
+use Rattle.memory.proofs.bodies.copy_numbers.Reads as reads
+use Rattle.memory.proofs.bodies.copy_numbers.Lts as lts
 use Rattle.memory.proofs.block.load.Reads as load-reads
 use Rattle.memory.proofs.block.save.Reads as save-reads
 
@@ -54,8 +54,8 @@ loop-again c = (search (needs, copied-next), omega arith)
 returns : tie.Need-returns Inv-loop μ-loop
 returns c = search (needs, copied-end)
 
-pub copy-spec : {M : Type 1} → statement M
-copy-spec =
+pub copy-numbers-spec : {M : Type 1} → statement M
+copy-numbers-spec =
     tie.close
     (tie.spec
     Inv-loop
