@@ -28,7 +28,7 @@ use Rattle.steps.specs.declared.Plan.{Plan}
 use Rattle.steps.specs.declared.RecoveryPlan.{RecoveryPlan}
 use Rattle.steps.specs.Plan.{planned, pointsTo, isDirtyPointer, isDirtyPlain, isFree, outcomeOf, chosen, leftValue, storeIf, readPlan, readClearPlan}
 use Rattle.steps.specs.Operation.{moreOf, installed, installPlain, installWord, installBy, install, installClear, persisted, persistClear, decide, settle, swap, swapped, swapClear, storeFree, planOf}
-use Rattle.steps.specs.Recovery.{recoveryStep, isEntry, entryStep, liveStep, recoveryPlan}
+use Rattle.steps.specs.Recovery.{recoveryStep, entryStep, endStep, liveStep, recoveryPlan}
 
 -- what the plans share
 pub points-by : (s t : Sort) (d : ℕ) (r : Bool) → s ≡ t → r ≡ pointsTo t d → r ≡ pointsTo s d
@@ -170,35 +170,39 @@ pub settle-clears : (p : Place) (d : ℕ) (s : Seen) (busy owner : Bool) (r : Pl
 settle-clears p d s busy owner r u e f h = rw (e, ← f) h
 
 -- recovery
-module _ (i count : ℕ) where
-  pub entry-below : i < count → (r : Bool) → r ≡ ltb i 4 → r ≡ isEntry i count
-  entry-below h r e = simp (lt-ltb _ _ h) e
+module _ (done : ℕ) (r : RecoveryPlan) where
+  pub end-free : done % 2 ≡ 0 → r ≡ recoveryStep (StoreStatus Free) (Then (done + 1)) → r ≡ endStep done
+  unfolding endStep
+  end-free z h = let n : done + 1 ≡ suc done = omega arith in h ∙ rw (n, eq-eqb _ _ z)
 
-  pub entry-past : count ≤ i → false ≡ isEntry i count
-  entry-past h = simp (le-ltb _ _ h)
+  pub end-last : (done % 2 ≡ 0 → ⊥) → r ≡ recoveryStep BackStatus Done → r ≡ endStep done
+  unfolding endStep
+  end-last z h = h ∙ rw (ne-eqb _ _ z)
 
 module _ (d : ℕ) (s : Seen) (r : RecoveryPlan) where
-  pub entry-word : (half : ℕ) (t : Bool) (v : ℕ) (e : Effect) → half ≡ 0 → t ≡ pointsTo (s .word) d → v ≡ leftValue (s .status) (s .entry)
-      → e ≡ storeIf t (s .entry .address) (Plain v false) → r ≡ recoveryStep e false → r ≡ entryStep d half s
-  entry-word half t v e z f g a h = h ∙ rw (a, f, g, eq-eqb _ _ z)
-
-  pub entry-back : (half : ℕ) → (half ≡ 0 → ⊥) → r ≡ recoveryStep (BackWord (s .entry .address)) false → r ≡ entryStep d half s
-  entry-back half z h = h ∙ rw (ne-eqb _ _ z)
-
   module _ (done : ℕ) where
-    pub live-entry : (t : Bool) → t ≡ isEntry (done / 2) (s .count) → t ≡ true → r ≡ entryStep d (done % 2) s → r ≡ liveStep d done s
-    unfolding liveStep
-    live-entry t l f h = h ∙ rw (← l, f)
+    pub entry-word : (t : Bool) (v : ℕ) (e : Effect) → done % 2 ≡ 0 → t ≡ pointsTo (s .word) d → v ≡ leftValue (s .status) (s .entry)
+        → e ≡ storeIf t (s .entry .address) (Plain v false) → r ≡ recoveryStep e (Then (done + 1)) → r ≡ entryStep d done s
+    unfolding entryStep
+    entry-word t v e z f g a h = let n : done + 1 ≡ suc done = omega arith in h ∙ rw (a, f, g, n, eq-eqb _ _ z)
 
-    pub live-free : (t : Bool) → t ≡ isEntry (done / 2) (s .count) → t ≡ false → done % 2 ≡ 0 → r ≡ recoveryStep (StoreStatus Free) false → r ≡ liveStep d done s
-    unfolding liveStep
-    live-free t l f e h = h ∙ rw (← l, f, eq-eqb _ _ e)
+    pub entry-back : (done % 2 ≡ 0 → ⊥) → r ≡ recoveryStep (BackWord (s .entry .address)) (Then (done + 1)) → r ≡ entryStep d done s
+    unfolding entryStep
+    entry-back z h = let n : done + 1 ≡ suc done = omega arith in h ∙ rw (n, ne-eqb _ _ z)
 
-    pub live-last : (t : Bool) → t ≡ isEntry (done / 2) (s .count) → t ≡ false → (done % 2 ≡ 0 → ⊥) → r ≡ recoveryStep BackStatus true → r ≡ liveStep d done s
+    pub live-entry : done < 8 → done / 2 < s .count → r ≡ entryStep d done s → r ≡ liveStep d done s
     unfolding liveStep
-    live-last t l f e h = h ∙ rw (← l, f, ne-eqb _ _ e)
+    live-entry k l h = h ∙ rw (lt-ltb _ _ k, lt-ltb _ _ l)
 
-    pub recovery-free : (t : Bool) → done ≡ 0 → t ≡ isFree (s .status) → t ≡ true → r ≡ recoveryStep Nothing true → r ≡ recoveryPlan d done s
+    pub live-end : done < 8 → s .count ≤ done / 2 → r ≡ endStep done → r ≡ liveStep d done s
+    unfolding liveStep
+    live-end k l h = h ∙ rw (lt-ltb _ _ k, le-ltb _ _ l)
+
+    pub live-past : 8 ≤ done → r ≡ endStep done → r ≡ liveStep d done s
+    unfolding liveStep
+    live-past k h = h ∙ rw (le-ltb _ _ k)
+
+    pub recovery-free : (t : Bool) → done ≡ 0 → t ≡ isFree (s .status) → t ≡ true → r ≡ recoveryStep Nothing Done → r ≡ recoveryPlan d done s
     unfolding recoveryPlan
     recovery-free t z e f h = h ∙ rw (eq-eqb _ _ z, ← e, f)
 

@@ -105,7 +105,7 @@ pub enum Next {
     Answer(Outcome),
 }
 
-// The entry after one, if there is one.
+// The number after one, if there is one: of an entry, of the steps done.
 pub enum More {
     Then(u64),
     Done,
@@ -131,10 +131,10 @@ pub struct ReadPlan {
     pub next: ReadNext,
 }
 
-// A step of recovery, and whether it is the descriptor's last.
+// A step of recovery, and the steps then done at its descriptor; Done after its last.
 pub struct RecoveryPlan {
     pub effect: Effect,
-    pub last: bool,
+    pub next: More,
 }
 
 // The number of the step, 1 to 7, that a place belongs to.

@@ -1,5 +1,6 @@
 // One step of recovery at a descriptor d.
 use crate::Effect;
+use crate::More;
 use crate::RecoveryPlan;
 use crate::Seen;
 use crate::common::left_value;
@@ -8,48 +9,56 @@ use crate::common::store_if;
 use word::Sort;
 use word::Status;
 ghost use mathlib.Core.Path.{_≡_};
+ghost use Prim.Native.Nat.{_<_};
 ghost use Rattle.steps.specs.Plan as P;
 ghost use Rattle.steps.specs.Recovery as R;
 
-fn step(effect: Effect, last: bool) -> RecoveryPlan
-    ensures { λ r. ⌜ r ≡ R.recoveryStep effect last ⌝ }
+fn step(effect: Effect, next: More) -> RecoveryPlan
+    ensures { λ r. ⌜ r ≡ R.recoveryStep effect next ⌝ }
 {
-    RecoveryPlan { effect, last }
+    RecoveryPlan { effect, next }
 }
 
 // The two steps of an entry: its word, by the persisted status; its write-back.
-fn entry_step(d: u64, half: u64, s: Seen) -> RecoveryPlan
-    ensures { λ r. ⌜ r ≡ R.entryStep d half s ⌝ }
+fn entry_step(d: u64, done: u64, s: Seen) -> RecoveryPlan
+    requires { ⌜ done < 8 ⌝ }
+    ensures { λ r. ⌜ r ≡ R.entryStep d done s ⌝ }
 {
     let e = s.entry;
     let w = s.word;
     let u = s.status;
-    if half == 0 {
+    if done % 2 == 0 {
         let t = points_to(w, d);
         let v = left_value(u, e);
-        return step(store_if(t, e.address, Sort::Plain(v, false)), false);
+        return step(
+            store_if(t, e.address, Sort::Plain(v, false)),
+            More::Then(done + 1),
+        );
     }
-    step(Effect::BackWord(e.address), false)
+    step(Effect::BackWord(e.address), More::Then(done + 1))
 }
 
-// Entry i is one of the body's, which has at most four.
-fn is_entry(i: u64, count: u64) -> bool
-    ensures { λ r. ⌜ r ≡ R.isEntry i count ⌝ }
+// After the entries: store Free, then write back the status.
+fn end_step(done: u64) -> RecoveryPlan
+    ensures { λ r. ⌜ r ≡ R.endStep done ⌝ }
 {
-    if i < count { i < 4 } else { false }
+    if done % 2 == 0 {
+        return step(Effect::StoreStatus(Status::Free), More::Then(done + 1));
+    }
+    step(Effect::BackStatus, More::Done)
 }
 
-// A live descriptor, `done` of its steps done: two steps an entry, then store Free, then write back the status.
+// A live descriptor, `done` of its steps done.
 fn live_step(d: u64, done: u64, s: Seen) -> RecoveryPlan
     ensures { λ r. ⌜ r ≡ R.liveStep d done s ⌝ }
 {
-    if is_entry(done / 2, s.count) {
-        return entry_step(d, done % 2, s);
+    if done < 8 {
+        if done / 2 < s.count {
+            return entry_step(d, done, s);
+        }
+        return end_step(done);
     }
-    if done % 2 == 0 {
-        return step(Effect::StoreStatus(Status::Free), false);
-    }
-    step(Effect::BackStatus, true)
+    end_step(done)
 }
 
 fn is_free(s: Status) -> bool
@@ -70,7 +79,7 @@ pub fn recovery_plan(d: u64, done: u64, s: Seen) -> RecoveryPlan
     let t = s.status;
     if done == 0 {
         if is_free(t) {
-            return step(Effect::Nothing, true);
+            return step(Effect::Nothing, More::Done);
         }
         return live_step(d, done, s);
     }

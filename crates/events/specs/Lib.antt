@@ -1,0 +1,6 @@
+pub mod Event
+pub mod Left
+pub mod Build
+pub mod Refusal
+pub mod First
+pub mod Coincide

@@ -1,0 +1,6 @@
+pub mod Step
+pub mod Recover
+pub mod Apply
+pub mod Coincide
+pub mod Refused
+pub mod Kept
