@@ -1,0 +1,4 @@
+pub mod Row
+pub mod Test
+pub mod Table
+pub mod Runs

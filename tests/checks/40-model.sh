@@ -1,0 +1,19 @@
+#!/bin/sh
+# Our machine beside the independent model: the runs with known answers, and random schedules.
+command -v gcc >/dev/null 2>&1 || {
+    echo "model: skipped, it needs gcc"
+    exit 0
+}
+sh tests/model/build.sh || exit 1
+if command -v python3 >/dev/null 2>&1; then
+    for program in build/model/model tests/model/answers.sh; do
+        sh tests/model/known.sh "$program" >build/known.log || {
+            grep -v ': same' build/known.log
+            exit 1
+        }
+        echo "known runs, $program: $(grep -c ': same' build/known.log) the same"
+    done
+else
+    echo "known runs: skipped, they need python3"
+fi
+sh tests/model/compare.sh 1 "${SEEDS:-2000}"

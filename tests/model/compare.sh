@@ -1,0 +1,18 @@
+#!/bin/sh
+# compare.sh FROM TO: on each seed's schedule our machine and the model answer alike, and after every record each number of the state
+# that changed is the same; at the end all of them.
+bad=0
+seed=$1
+while [ "$seed" -le "$2" ]; do
+    build/model/gen "$seed" >build/model/schedule
+    build/model/model -s <build/model/schedule >build/model/wanted
+    target/bin/states <build/model/schedule >build/model/got
+    if ! cmp -s build/model/wanted build/model/got; then
+        echo "seed $seed differs: $(cmp build/model/wanted build/model/got 2>&1 | head -n 1)"
+        bad=$((bad + 1))
+        [ $bad -lt 5 ] || exit 1
+    fi
+    seed=$((seed + 1))
+done
+echo "model: seeds $1 to $2, $bad differ"
+[ $bad = 0 ]
