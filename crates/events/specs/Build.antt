@@ -47,7 +47,7 @@ unfoldable pub lowestBelow : Block → ℕ → Found
 lowestBelow m zero = Missing
 lowestBelow m (suc d) = foundOr (lowestBelow m d) (cond (qualifies m d) (Here d) Missing)
 
--- open it; its cached body becomes zeros
+-- open it; its cached body becomes zeros (where none qualifies, the table has refused 9 before)
 abbrev pub opened : Block → ℕ → Found → Left
 opened m w (Here d) = left (putWorker (clearBody m d) w (Building d)) (Opened d)
 opened m w Missing = left m (Refused 9)

@@ -3,4 +3,5 @@ pub mod Left
 pub mod Build
 pub mod Refusal
 pub mod First
+pub mod Lowest
 pub mod Coincide

@@ -20,14 +20,14 @@ use Rattle.memory.specs.declared.Copy.{Copy}
 use Rattle.memory.specs.declared.Copy.the-variants.{Cached, Persisted}
 use Rattle.memory.specs.declared.Found.{Found}
 use Rattle.memory.specs.declared.Found.the-variants.{Here, Missing}
-use Rattle.memory.specs.Block.{Block, Field, slot, get, put}
+use Rattle.memory.specs.Block.{Block, Field, get, put}
 use Rattle.memory.specs.Block.Field.{word, status, body, worker, recovery}
 use Rattle.memory.specs.Content.{wordIn, entryIn, putEntry, countIn, crashCopied, idled, clearBody, workerIn, putWorker, recoveryIn, putRecovery}
 use Rattle.memory.specs.Fresh.{sizesIn}
 use Rattle.memory.specs.Value.{entryFor}
 use Rattle.memory.specs.Fields.{get-other}
 use Rattle.memory.specs.StoreLaws.{entry-other, cleared-other, row-other, idled-other, recovery-other}
-use Rattle.memory.specs.CopyLaws.{body-back-other, crash-other}
+use Rattle.memory.specs.CopyLaws.{body-back-other, crash-copy-other}
 use Rattle.events.specs.declared.Event.{Event}
 use Rattle.events.specs.declared.Event.the-variants.{Open, Add, Remove, Submit, Discard, Read, Step, BackWord, BackStatus, BackBody, Crash, Recover}
 use Rattle.events.specs.Left.{left}
@@ -71,7 +71,9 @@ SparedByRecovery m (At d s) f = SparedBy d (recoveryPlanAt m d s .effect) f × (
 
 -- 0B: every cached word, status and body; every worker; recovery's place
 pub record SparedByCrash (f : Field) : Type 0 where
-  pub copies : 288 ≤ slot f
+  pub words : (a : ℕ) → word Cached a ≡ f → ⊥
+  pub statuses : (d : ℕ) → status Cached d ≡ f → ⊥
+  pub bodies : (d : ℕ) → NotBody Cached d f
   pub workers : (w j : ℕ) → worker w j ≡ f → ⊥
   pub place : (j : ℕ) → recovery j ≡ f → ⊥
 
@@ -157,7 +159,7 @@ module _ (f : Field) where
 
   crash-kept : (m : Block) → SparedByCrash f → get (crashed m) f ≡ get m f
   unfolding crashed
-  crash-kept m n = recovery-other _ (At 0 0) f (n .place) ∙ idled-other (crashCopied m) 8 f (n .workers) ∙ crash-other m f (n .copies)
+  crash-kept m n = recovery-other _ (At 0 0) f (n .place) ∙ idled-other (crashCopied m) 8 f (n .workers) ∙ crash-copy-other m f (n .words) (n .statuses) (n .bodies)
 
   acted-kept : (m : Block) (e : Event) → Spared m e f → get (acted m e .memory) f ≡ get m f
   acted-kept m (Open w) n = opened-kept m w (lowestBelow m (sizesIn m .k)) n

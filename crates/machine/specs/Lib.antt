@@ -4,3 +4,5 @@ pub mod Apply
 pub mod Coincide
 pub mod Refused
 pub mod Kept
+pub mod Whole
+pub mod Wait

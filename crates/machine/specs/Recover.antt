@@ -44,6 +44,7 @@ recoveryOut m k d q = left (putRecovery (performed m d (q .effect)) (placeAfter 
 unfoldable pub recoveryStepAt : Block → ℕ → ℕ → ℕ → Left
 recoveryStepAt m k d s = recoveryOut m k d (recoveryPlanAt m d s)
 
+-- (outside recovery, the table has refused 6 before)
 abbrev pub recoverOf : Block → ℕ → RecoveryPlace → Left
 recoverOf m k Outside = left m (Refused 6)
 recoverOf m k (At d s) = recoveryStepAt m k d s

@@ -1,10 +1,11 @@
 -- A refusal changes nothing, and each number is given exactly when it is the first of its table that holds.
 use mathlib.Core.Path.{_≡_, refl, sym, ap, subst, _∙_}
 use mathlib.Core.Logic.{_↔_}
-use mathlib.Core.Bool.{Bool, true, false, not, _||_}
+use mathlib.Core.Bool.{Bool, true, false, cond, not, _||_}
 use mathlib.Core.List.{List, [], _∷_}
 use Prim.Native.Nat.{ℕ, zero, suc}
 use native.Mathlib.Omega.{arith}
+use lib.Dec.{eqb}
 use Rattle.steps.specs.declared.Place.{Place}
 use Rattle.steps.specs.declared.Own.{Own}
 use Rattle.steps.specs.declared.Worker.{Worker}
@@ -33,10 +34,6 @@ use Rattle.events.specs.Build.{lowestBelow, opened}
 use Rattle.machine.specs.Step.{answerOf, planAt, readAnswer, workStep, readStep, readClearStep, stepOf}
 use Rattle.machine.specs.Recover.{placeAfter, recoveryPlanAt, recoveryAnswer, recoveryStepAt, recoverOf}
 use Rattle.machine.specs.Apply.{acted, unlessRefused, applyOf}
-
--- the answer r refuses
-abbrev pub Refuses : A.Answer → Type 0
-Refuses a = (r : ℕ) × (a ≡ Refused r)
 
 clash : _≡_ {A = ℕ} 0 1 → ⊥
 clash e = omega arith
@@ -164,6 +161,30 @@ given-refused m e r g = go (firstOf (checksOf m e)) (gives-first (checksOf m e) 
     go zero h k = let z : ⊥ = k (sym h) in search
     go (suc n) h k = ap Refused h
 
--- each number is given exactly when its condition holds and no earlier one of the order does
+-- each number is given exactly when its condition holds and no earlier one of the event's table does
 pub refused-exactly : (m : Block) (e : Event) (r : ℕ) → (applyOf m e .answer ≡ Refused r) ↔ Gives (checksOf m e) r
 refused-exactly m e r = (refused-given m e r, given-refused m e r)
+
+-- each table follows the order of document 01
+abbrev pub order : List ℕ
+order = 4 ∷ 5 ∷ 6 ∷ 7 ∷ 8 ∷ 16 ∷ 9 ∷ 10 ∷ 17 ∷ 11 ∷ 13 ∷ 12 ∷ 14 ∷ 15 ∷ []
+
+-- the numbers of a table are met in this order
+abbrev pub follows : List Check → List ℕ → Bool
+follows [] ns = true
+follows (c ∷ cs) [] = false
+follows (c ∷ cs) (n ∷ ns) = cond (eqb (c .number) n) (follows cs ns) (follows (c ∷ cs) ns)
+
+pub in-order : (m : Block) (e : Event) → follows (checksOf m e) order ≡ true
+in-order m (Open w) = refl
+in-order m (Add w a x y) = refl
+in-order m (Remove w a) = refl
+in-order m (Submit w) = refl
+in-order m (Discard w) = refl
+in-order m (Read w a) = refl
+in-order m (Step w) = refl
+in-order m (BackWord a) = refl
+in-order m (BackStatus d) = refl
+in-order m (BackBody d) = refl
+in-order m Crash = refl
+in-order m Recover = refl

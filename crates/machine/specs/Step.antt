@@ -117,7 +117,7 @@ carriedOut m w o e p q = left (putWorker (performed m e (q .effect)) w (workerAf
 unfoldable pub workStep : Block → ℕ → Own → ℕ → Place → Left
 workStep m w o e p = carriedOut m w o e p (planAt m w o e p)
 
--- a step of a read of a
+-- a step of a read of a; its effects name a word alone, so that the descriptor 0 of `performed` is not looked at
 abbrev pub readAfter : ℕ → ReadNext → Worker
 readAfter a (Meet e) = Working (Read a) e (Install 0)
 readAfter a (Clear v) = ReadClear a v
@@ -137,7 +137,7 @@ readStep m w a = readOut m w a (readPlan a (wordIn Cached m a))
 unfoldable pub readClearStep : Block → ℕ → ℕ → ℕ → Left
 readClearStep m w a v = readOut m w a (readClearPlan a v (wordIn Cached m a))
 
--- a step of the worker w, which is x; one that runs nothing is refused
+-- a step of the worker w, which is x (one that runs nothing has been refused 16 before, by its table)
 abbrev pub stepOf : Block → ℕ → Worker → Left
 stepOf m w Idle = left m (Refused 16)
 stepOf m w (Building d) = left m (Refused 16)

@@ -172,3 +172,26 @@ module _ (m : Block) where
             shadow (body Cached d j) (body Persisted d j) h (omega arith) (omega arith)
         go true false e k = both-nowhere (body Cached d j) (body Persisted d j) (simp (e, k)) (simp (e, k))
         go false t e k = both-nowhere (body Cached d j) (body Persisted d j) (simp e) (simp e)
+
+-- what is no cached field is as it was, by its name
+module _ (m : Block) where
+  past-copies : (t : Bool) (i : ℕ) → 288 ≤ i → 288 ≤ cond t i nowhere
+  past-copies true i h = h
+  past-copies false i h = omega arith
+
+  past-two : (s t : Bool) (i : ℕ) → 288 ≤ i → 288 ≤ cond s (cond t i nowhere) nowhere
+  past-two true t i h = past-copies t i h
+  past-two false t i h = omega arith
+
+  pub crash-copy-other : (f : Field) → ((a : ℕ) → word Cached a ≡ f → ⊥) → ((d : ℕ) → status Cached d ≡ f → ⊥) → ((d j : ℕ) → body Cached d j ≡ f → ⊥)
+      → get (crashCopied m) f ≡ get m f
+  unfolding slot
+  crash-copy-other (word Cached a) n o p = let z : ⊥ = n a refl in search
+  crash-copy-other (word Persisted a) n o p = crash-other m (word Persisted a) (past-copies (ltb a 64) (288 + a) (omega arith))
+  crash-copy-other (status Cached d) n o p = let z : ⊥ = o d refl in search
+  crash-copy-other (status Persisted d) n o p = crash-other m (status Persisted d) (past-copies (ltb d 16) (288 + 64 + d) (omega arith))
+  crash-copy-other (body Cached d j) n o p = let z : ⊥ = p d j refl in search
+  crash-copy-other (body Persisted d j) n o p = crash-other m (body Persisted d j) (past-two (ltb d 16) (ltb j 13) (288 + 80 + 13 * d + j) (omega arith))
+  crash-copy-other (worker w j) n o p = crash-other m (worker w j) (past-two (ltb w 8) (ltb j 8) (576 + 8 * w + j) (omega arith))
+  crash-copy-other (size j) n o p = crash-other m (size j) (past-copies (ltb j 3) (640 + j) (omega arith))
+  crash-copy-other (recovery j) n o p = crash-other m (recovery j) (past-copies (ltb j 3) (643 + j) (omega arith))

@@ -18,7 +18,7 @@ use Rattle.memory.specs.Block.{Block, Field, slot, get, put}
 use Rattle.memory.specs.Block.Field.{body, worker, recovery}
 use Rattle.memory.specs.Content.{entryIn, putEntry, clearedTo, rowIn, workerIn, putRow, putWorker, idled, recoveryRowIn, recoveryIn, putRecovery}
 use Rattle.memory.specs.Laws.{same-worker}
-use Rattle.memory.specs.Fields.{Whole, Somewhere, body-somewhere, worker-somewhere, recovery-somewhere, length-put, whole-put, get-put, get-other}
+use Rattle.memory.specs.Fields.{Whole, Somewhere, body-somewhere, worker-somewhere, recovery-somewhere, length-put, whole-put, get-put, get-other, put-same}
 
 -- three fields, one after the other
 module _ (m : Block) (f g k : Field) (x y z : ℕ) where
@@ -149,6 +149,11 @@ module _ (m : Block) (w : ℕ) (r : Row) where
 
     pub row-stored : rowIn (putRow m w r) w ≡ r
     row-stored = rw (row-tag, row-own, row-job, row-place, row-entry, row-noted)
+
+-- putting a row back changes nothing
+pub row-same : (m : Block) (w : ℕ) → putRow m w (rowIn m w) ≡ m
+unfolding putRow
+row-same m w = simp put-same
 
 pub worker-stored : (m : Block) (w : ℕ) (x : Worker) → Whole m → w < 8 → workerIn (putWorker m w x) w ≡ x
 worker-stored m w x h l = ap workerOf (row-stored m w (rowOf x) h l) ∙ worker-round x

@@ -47,7 +47,7 @@ pub struct Sizes {
     pub w: u64,
 }
 
-// Where in a body an address is: the entry's number from 0.
+// What a search found: the number of an entry, or of a descriptor.
 pub enum Found {
     Here(u64),
     Missing,

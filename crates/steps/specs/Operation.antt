@@ -1,4 +1,4 @@
--- The steps of an operation d (document 01): from what a step sees, its one effect and what comes next. In `A2 6`, 6 is the line of the paper's Algorithm 2.
+-- The steps of an operation d (document 01): from what a step sees, at most one effect on memory and what comes next. In `A2 6`, 6 is the line of the paper's Algorithm 2.
 use mathlib.Core.Bool.{Bool, true, false, cond}
 use Prim.Native.Nat.{ℕ, suc}
 use lib.Dec.{eqb, ltb}
@@ -43,7 +43,7 @@ installWord i d s (Plain v dirty) = installPlain i d s v dirty
 installWord i d s (Pointer e dirty) = cond (eqb e d) (planned Nothing (installed (moreOf i (s .count)))) (planned Nothing (Help e))
 installWord i d s (Neither w) = planned Nothing (Go (Decide Failed))
 
--- if the cached status is not Undecided, go to 5
+-- if the cached status is not Undecided, go to 5 (it is then decided: Free and Bad are never met here)
 abbrev pub installBy : ℕ → ℕ → Seen → Status → Plan
 installBy i d s Free = planned Nothing (Go Settle)
 installBy i d s Undecided = installWord i d s (s .word)
@@ -65,14 +65,14 @@ persisted Done = Go (Decide Succeeded)
 unfoldable pub persistClear : ℕ → ℕ → Seen → Plan
 persistClear i d s = planned (storeIf (isDirtyPointer (s .word) d) (s .entry .address) (Pointer d false)) (persisted (moreOf i (s .count)))
 
--- 4. If the cached status is Undecided, store the outcome, dirty (A2 25)
+-- 4. If the cached status is Undecided, store the outcome, dirty (A2 25); any other is left as it is
 abbrev pub decide : Outcome → Status → Plan
 decide o Free = planned Nothing (Go Settle)
 decide o Undecided = planned (StoreStatus (Decided o true)) (Go Settle)
 decide o (Decided q dirty) = planned Nothing (Go Settle)
 decide o (Bad x) = planned Nothing (Go Settle)
 
--- 5. If the status is dirty, write it back, and the next step clears the bit; if clean, this one step goes on to 6 (A2 26-28)
+-- 5. If the status is dirty, write it back, and the next step clears the bit; if clean, this one step goes on to 6 (A2 26-28). Only a decided status is met here
 abbrev pub settleBy : Bool → Plan
 settleBy true = planned BackStatus (Go SettleClear)
 settleBy false = planned Nothing (Go (Swap 0))
@@ -106,12 +106,12 @@ swapClear i s owner =
     (Plain (leftValue (s .status) (s .entry)) false))
     (swapped owner (moreOf i (s .count)))
 
--- 7. The owner stores Free, answering W and changing nothing while another worker's current job is d
+-- 7. The owner, who alone comes here (`swapDone`), stores Free, answering W and changing nothing while another worker's current job is d
 abbrev pub storeFree : Bool → Status → Plan
 storeFree true s = planned Nothing Wait
 storeFree false s = planned (StoreStatus Free) (Go (BackFree (outcomeOf s)))
 
--- every step of an operation
+-- every step of an operation; 1 is the owner's only, since a helper begins at Install 0
 abbrev pub planOf : Place → ℕ → Seen → Bool → Bool → Plan
 planOf BackBody d s busy owner = planned E.the-variants.BackBody (Go StoreUndecided)
 planOf StoreUndecided d s busy owner = planned (StoreStatus Undecided) (Go BackUndecided)

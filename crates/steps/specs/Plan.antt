@@ -44,7 +44,7 @@ isFree Undecided = false
 isFree (Decided o dirty) = false
 isFree (Bad x) = false
 
--- the outcome that a status holds, dirty or not
+-- the outcome that a status holds, dirty or not; one that is not decided counts as Failed, so that it picks expected
 abbrev pub outcomeOf : Status → Outcome
 outcomeOf Free = Failed
 outcomeOf Undecided = Failed
@@ -62,7 +62,8 @@ leftValue s e = chosen (outcomeOf s) e
 abbrev pub storeIf : Bool → ℕ → Sort → Effect
 storeIf t a s = cond t (StoreWord a s) Nothing
 
--- Read: a pointer to e is helped; a clean word is answered; a dirty plain word is written back
+-- Read: a pointer to e is helped; a clean word is answered; a dirty plain word is written back. (A number that is no word, which is never met, is
+-- answered 0, its value.)
 abbrev pub readBy : ℕ → ℕ → Bool → ReadPlan
 readBy a v true = record { effect = BackWord a; next = Clear v }
 readBy a v false = record { effect = Nothing; next = Value v }
@@ -70,7 +71,7 @@ readBy a v false = record { effect = Nothing; next = Value v }
 abbrev pub readPlan : ℕ → Sort → ReadPlan
 readPlan a (Plain v dirty) = readBy a v dirty
 readPlan a (Pointer e dirty) = record { effect = Nothing; next = Meet e }
-readPlan a (Neither w) = record { effect = Nothing; next = Value w }
+readPlan a (Neither w) = record { effect = Nothing; next = Value 0 }
 
 -- the next step clears the bit if the word is unchanged, and answers the value first seen
 abbrev pub readClearPlan : ℕ → ℕ → Sort → ReadPlan

@@ -88,7 +88,7 @@ pub fn left_value(s: Status, e: Entry) -> u64
     chosen(outcome_of(s), e)
 }
 
-// A store of a plain word where a test holds.
+// A store of a word where a test holds.
 pub fn store_if(t: bool, a: u64, s: Sort) -> Effect
     ensures { λ r. ⌜ r ≡ P.storeIf t a s ⌝ }
 {
@@ -132,9 +132,9 @@ pub fn read_plan(a: u64, s: Sort) -> ReadPlan
             effect: Effect::Nothing,
             next: ReadNext::Meet(e),
         },
-        Sort::Neither(w) => ReadPlan {
+        Sort::Neither(_) => ReadPlan {
             effect: Effect::Nothing,
-            next: ReadNext::Value(w),
+            next: ReadNext::Value(0),
         },
     }
 }

@@ -105,7 +105,7 @@ pub enum Next {
     Answer(Outcome),
 }
 
-// The number after one, if there is one: of an entry, of the steps done.
+// What comes after entry i of a body, or after so many steps of recovery: the next number, or the end.
 pub enum More {
     Then(u64),
     Done,

@@ -5,35 +5,35 @@ use Rattle.steps.proofs.common.read_plan.Tie as tie
 use Rattle.steps.proofs.common.read_plan.Reads as reads
 use Rattle.steps.proofs.common.read_plan.Lts as lts
 
--- src/common.rt:110:21
+-- src/common.rt:119:21
 enum-known-s : tie.Need-enum-known-s
 enum-known-s c = search needs
 
--- src/common.rt:112:17
+-- src/common.rt:121:17
 returns : tie.Need-returns
 returns c = search (needs, read-dirty, read-clean, read-by)
 
--- src/common.rt:116:23
+-- src/common.rt:131:23
 enum-known-s-2 : tie.Need-enum-known-s-2
 enum-known-s-2 c = search needs
 
--- src/common.rt:117:23
-enum-known-s-3 : tie.Need-enum-known-s-3
-enum-known-s-3 c = search needs
+-- src/common.rt:136:21
+enum-told : tie.Need-enum-told
+enum-told c = search needs
 
--- src/common.rt:106:1
+-- src/common.rt:115:1
 returns-2 : tie.Need-returns-2
 returns-2 c = search (needs, read-dirty, read-clean, read-by)
 
--- src/common.rt:106:1
+-- src/common.rt:115:1
 returns-3 : tie.Need-returns-3
 returns-3 c = search (needs, read-dirty, read-clean, read-by)
 
--- src/common.rt:106:1
+-- src/common.rt:115:1
 returns-4 : tie.Need-returns-4
 returns-4 c = search (needs, read-dirty, read-clean, read-by)
 
 pub read-plan-spec : {M : Type 1} → statement M
 read-plan-spec =
     tie.close
-    (tie.spec enum-known-s returns enum-known-s-2 enum-known-s-3 returns-2 returns-3 returns-4)
+    (tie.spec enum-known-s returns enum-known-s-2 enum-told returns-2 returns-3 returns-4)
