@@ -1,8 +1,8 @@
 // The records of a schedule.
 
-use crate::lines::answer_line;
+use crate::answers::answer_line;
+use crate::answers::values_line;
 use crate::lines::state_lines;
-use crate::lines::values_line;
 use events::Answer;
 use events::Event;
 ghost use Prim.Native.Nat.{_<_};

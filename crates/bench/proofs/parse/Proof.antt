@@ -5,9 +5,6 @@ use lib.ListN.{length}
 use borrow.Author.Needs.{needs}
 use Rattle.bench.proofs.parse.Statement.{statement}
 use Rattle.bench.proofs.parse.Tie as tie
-use Rattle.bench.proofs.parse.Reads as reads
-use Rattle.bench.proofs.parse.Lts as lts
-use Rattle.bench.proofs.digit.Reads as digit-reads
 
 abbrev Inv-loop : tie.InvT-loop
 Inv-loop b n₀ i₀ n i = (n < 1000000000) × (i ≤ 32)
@@ -15,31 +12,24 @@ Inv-loop b n₀ i₀ n i = (n < 1000000000) × (i ≤ 32)
 abbrev μ-loop : tie.MeasureT-loop
 μ-loop b n₀ i₀ n i = 32 - i
 
--- src/main.rt:36:5
 loop-holds : tie.Need-loop-holds Inv-loop μ-loop
 loop-holds c = search needs
 
--- src/main.rt:37:22
 element-copy-out-digit : tie.Need-element-copy-out-digit Inv-loop μ-loop
 element-copy-out-digit c = search needs
 
--- src/main.rt:37:9
 digit-requires : tie.Need-digit-requires Inv-loop μ-loop
 digit-requires c κs = search needs
 
--- src/main.rt:38:9
 add-i : tie.Need-add-i Inv-loop μ-loop
 add-i c = search needs
 
--- src/main.rt:36:5
 loop-less : tie.Need-loop-less Inv-loop μ-loop
 loop-less c = search needs
 
--- src/main.rt:36:5
 loop-again : tie.Need-loop-again Inv-loop μ-loop
 loop-again c = search needs
 
--- src/main.rt:31:1
 returns : tie.Need-returns Inv-loop μ-loop
 returns c = search needs
 

@@ -2,90 +2,71 @@ use borrow.Author.Tests.{ne-eqb}
 use Rattle.codes.specs.Place.{placeOf}
 use Rattle.codes.proofs.place_of.Statement.{statement}
 use Rattle.codes.proofs.place_of.Tie as tie
-use Rattle.codes.proofs.place_of.Reads as reads
-use Rattle.codes.proofs.place_of.Lts as lts
 
--- src/lib.rt:25:1
 returns : tie.Need-returns
 unfolding placeOf
 returns c = simp (c .match .keys1)
 
--- src/lib.rt:25:1
 returns-2 : tie.Need-returns-2
 unfolding placeOf
 returns-2 c = simp (c .match .keys2)
 
--- src/lib.rt:25:1
 returns-3 : tie.Need-returns-3
 unfolding placeOf
 returns-3 c = simp (c .match .keys3)
 
--- src/lib.rt:25:1
 returns-4 : tie.Need-returns-4
 unfolding placeOf
 returns-4 c = simp (c .match .keys4)
 
--- src/lib.rt:25:1
 returns-5 : tie.Need-returns-5
 unfolding placeOf
 returns-5 c = simp (c .match .keys5)
 
--- src/lib.rt:25:1
 returns-6 : tie.Need-returns-6
 unfolding placeOf
 returns-6 c = simp (c .match .keys6)
 
--- src/lib.rt:25:1
 returns-7 : tie.Need-returns-7
 unfolding placeOf
 returns-7 c = simp (c .match .keys7)
 
--- src/lib.rt:25:1
 returns-8 : tie.Need-returns-8
 unfolding placeOf
 returns-8 c = simp (c .match .keys8)
 
--- src/lib.rt:25:1
 returns-9 : tie.Need-returns-9
 unfolding placeOf
 returns-9 c = simp (c .match .keys9)
 
--- src/lib.rt:25:1
 returns-10 : tie.Need-returns-10
 unfolding placeOf
 returns-10 c = simp (c .match .keys10)
 
--- src/lib.rt:25:1
 returns-11 : tie.Need-returns-11
 unfolding placeOf
 returns-11 c = simp (c .match .keys11)
 
--- src/lib.rt:25:1
 returns-12 : tie.Need-returns-12
 unfolding placeOf
 returns-12 c = simp (c .match .keys12)
 
--- src/lib.rt:25:1
 returns-13 : tie.Need-returns-13
 unfolding placeOf
 returns-13 c = simp (c .match .keys13)
 
--- src/lib.rt:25:1
 returns-14 : tie.Need-returns-14
 unfolding placeOf
 returns-14 c = simp (c .match .keys14)
 
--- src/lib.rt:25:1
 returns-15 : tie.Need-returns-15
 unfolding placeOf
 returns-15 c = simp (c .match .keys15)
 
--- src/lib.rt:25:1
 returns-16 : tie.Need-returns-16
 unfolding placeOf
 returns-16 c = simp (c .match .keys16)
 
--- src/lib.rt:25:1
 returns-17 : tie.Need-returns-17
 unfolding placeOf
 returns-17 c =

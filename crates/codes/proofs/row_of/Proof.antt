@@ -2,68 +2,49 @@ use Rattle.codes.proofs.Laws.{row-by}
 use borrow.Author.Needs.{needs}
 use Rattle.codes.proofs.row_of.Statement.{statement}
 use Rattle.codes.proofs.row_of.Tie as tie
-use Rattle.codes.proofs.row_of.Reads as reads
-use Rattle.codes.proofs.row_of.Lts as lts
-use Rattle.codes.proofs.row_bare.Reads as row-bare-reads
-use Rattle.codes.proofs.row_working.Reads as row-working-reads
 
--- src/lib.rt:165:25
 enum-told : tie.Need-enum-told
 enum-told c = search needs
 
--- src/lib.rt:165:25
 row-bare-requires : tie.Need-row-bare-requires
 row-bare-requires c κs = search needs
 
--- src/lib.rt:166:26
 enum-known-x : tie.Need-enum-known-x
 enum-known-x c = search needs
 
--- src/lib.rt:166:32
 row-bare-requires-2 : tie.Need-row-bare-requires-2
 row-bare-requires-2 c κs = search needs
 
--- src/lib.rt:167:25
 enum-known-x-2 : tie.Need-enum-known-x-2
 enum-known-x-2 c = search needs
 
--- src/lib.rt:167:37
 row-working-requires : tie.Need-row-working-requires
 row-working-requires c κs = search needs
 
--- src/lib.rt:168:25
 enum-known-x-3 : tie.Need-enum-known-x-3
 enum-known-x-3 c = search needs
 
--- src/lib.rt:168:31
 row-bare-requires-3 : tie.Need-row-bare-requires-3
 row-bare-requires-3 c κs = search needs
 
--- src/lib.rt:169:27
 enum-known-x-4 : tie.Need-enum-known-x-4
 enum-known-x-4 c = search needs
 
--- src/lib.rt:169:36
 row-bare-requires-4 : tie.Need-row-bare-requires-4
 row-bare-requires-4 c κs = search needs
 
--- src/lib.rt:161:1
 returns : tie.Need-returns
 returns c = search (needs, row-by)
 
--- src/lib.rt:161:1
 returns-2 : tie.Need-returns-2
 returns-2 c = search (needs, row-by)
 
--- src/lib.rt:161:1
 returns-3 : tie.Need-returns-3
 returns-3 c = search (needs, row-by)
 
--- src/lib.rt:161:1
 returns-4 : tie.Need-returns-4
 returns-4 c = search (needs, row-by)
 
--- src/lib.rt:161:1
 returns-5 : tie.Need-returns-5
 returns-5 c = search (needs, row-by)
 

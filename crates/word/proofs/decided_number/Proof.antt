@@ -1,31 +1,22 @@
 use borrow.Author.Needs.{needs}
 use Rattle.word.proofs.decided_number.Statement.{statement}
 use Rattle.word.proofs.decided_number.Tie as tie
-use Rattle.word.proofs.decided_number.Reads as reads
-use Rattle.word.proofs.decided_number.Lts as lts
-use Rattle.word.proofs.with_mark.Reads as with-mark-reads
 
--- src/lib.rt:121:31
 enum-told : tie.Need-enum-told
 enum-told c = search needs
 
--- src/lib.rt:121:31
 with-mark-requires : tie.Need-with-mark-requires
 with-mark-requires c κs = search needs
 
--- src/lib.rt:122:28
 enum-told-2 : tie.Need-enum-told-2
 enum-told-2 c = search needs
 
--- src/lib.rt:122:28
 with-mark-requires-2 : tie.Need-with-mark-requires-2
 with-mark-requires-2 c κs = search needs
 
--- src/lib.rt:117:1
 returns : tie.Need-returns
 returns c = cc
 
--- src/lib.rt:117:1
 returns-2 : tie.Need-returns-2
 returns-2 c = cc
 

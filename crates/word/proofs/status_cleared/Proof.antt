@@ -1,38 +1,28 @@
 use borrow.Author.Needs.{needs}
 use Rattle.word.proofs.status_cleared.Statement.{statement}
 use Rattle.word.proofs.status_cleared.Tie as tie
-use Rattle.word.proofs.status_cleared.Reads as reads
-use Rattle.word.proofs.status_cleared.Lts as lts
 
--- src/lib.rt:136:25
 enum-told : tie.Need-enum-told
 enum-told c = search needs
 
--- src/lib.rt:137:30
 enum-told-2 : tie.Need-enum-told-2
 enum-told-2 c = search needs
 
--- src/lib.rt:138:25
 enum-known-s : tie.Need-enum-known-s
 enum-known-s c = search needs
 
--- src/lib.rt:139:21
 enum-known-s-2 : tie.Need-enum-known-s-2
 enum-known-s-2 c = search needs
 
--- src/lib.rt:132:1
 returns : tie.Need-returns
 returns c = search needs
 
--- src/lib.rt:132:1
 returns-2 : tie.Need-returns-2
 returns-2 c = search needs
 
--- src/lib.rt:132:1
 returns-3 : tie.Need-returns-3
 returns-3 c = cc
 
--- src/lib.rt:132:1
 returns-4 : tie.Need-returns-4
 returns-4 c = cc
 

@@ -1,43 +1,31 @@
 use borrow.Author.Needs.{needs}
 use Rattle.word.proofs.status_number.Statement.{statement}
 use Rattle.word.proofs.status_number.Tie as tie
-use Rattle.word.proofs.status_number.Reads as reads
-use Rattle.word.proofs.status_number.Lts as lts
-use Rattle.word.proofs.decided_number.Reads as decided-number-reads
 
--- src/lib.rt:124:25
 enum-told : tie.Need-enum-told
 enum-told c = search needs
 
--- src/lib.rt:125:30
 enum-told-2 : tie.Need-enum-told-2
 enum-told-2 c = search needs
 
--- src/lib.rt:126:25
 enum-known-s : tie.Need-enum-known-s
 enum-known-s c = search needs
 
--- src/lib.rt:126:38
 decided-number-requires : tie.Need-decided-number-requires
 decided-number-requires c κs = search needs
 
--- src/lib.rt:127:21
 enum-known-s-2 : tie.Need-enum-known-s-2
 enum-known-s-2 c = search needs
 
--- src/lib.rt:120:1
 returns : tie.Need-returns
 returns c = search needs
 
--- src/lib.rt:120:1
 returns-2 : tie.Need-returns-2
 returns-2 c = search needs
 
--- src/lib.rt:120:1
 returns-3 : tie.Need-returns-3
 returns-3 c = cc
 
--- src/lib.rt:120:1
 returns-4 : tie.Need-returns-4
 returns-4 c = search needs
 

@@ -7,10 +7,6 @@ use native.Mathlib.Omega.{arith}
 use Rattle.events.proofs.BuildLaws.{owned-found, owned-next, owned-none}
 use Rattle.events.proofs.build.owned.Statement.{statement}
 use Rattle.events.proofs.build.owned.Tie as tie
-use Rattle.events.proofs.build.owned.Reads as reads
-use Rattle.events.proofs.build.owned.Lts as lts
-use Rattle.events.proofs.build.owns.Reads as owns-reads
-use Rattle.memory.proofs.read_worker.Reads as read-worker-reads
 
 abbrev Inv-loop : tie.InvT-loop
 Inv-loop m d w₀ w = (ownedBelow m d w ≡ false) × (w ≤ 8)
@@ -18,36 +14,28 @@ Inv-loop m d w₀ w = (ownedBelow m d w ≡ false) × (w ≤ 8)
 abbrev μ-loop : tie.MeasureT-loop
 μ-loop m d w₀ w = 8 - w
 
--- src/build.rt:44:5
 loop-holds : tie.Need-loop-holds Inv-loop μ-loop
 unfolding ownedBelow
 loop-holds c = (refl, omega arith)
 
--- src/build.rt:45:17
 read-worker-requires : tie.Need-read-worker-requires Inv-loop μ-loop
 read-worker-requires c κs = search needs
 
--- src/build.rt:45:12
 owns-requires : tie.Need-owns-requires Inv-loop μ-loop
 owns-requires c κs = search needs
 
--- src/build.rt:46:13
 returns : tie.Need-returns Inv-loop μ-loop
 returns c = search (needs, owned-found)
 
--- src/build.rt:48:13
 add-w : tie.Need-add-w Inv-loop μ-loop
 add-w c = search needs
 
--- src/build.rt:44:5
 loop-less : tie.Need-loop-less Inv-loop μ-loop
 loop-less c = search needs
 
--- src/build.rt:44:5
 loop-again : tie.Need-loop-again Inv-loop μ-loop
 loop-again c = (search (needs, owned-next), omega arith)
 
--- src/build.rt:40:1
 returns-2 : tie.Need-returns-2 Inv-loop μ-loop
 returns-2 c = search (needs, owned-none)
 

@@ -2,26 +2,19 @@ use Rattle.events.proofs.BuildLaws.{remove-by}
 use borrow.Author.Needs.{needs}
 use Rattle.events.proofs.build.remove.Statement.{statement}
 use Rattle.events.proofs.build.remove.Tie as tie
-use Rattle.events.proofs.build.remove.Reads as reads
-use Rattle.events.proofs.build.remove.Lts as lts
-use Rattle.events.proofs.build.remove_entry.Reads as remove-entry-reads
 
--- src/build.rt:164:21
 enum-known-f : tie.Need-enum-known-f
 enum-known-f c = search needs
 
--- src/build.rt:164:27
 remove-entry-requires : tie.Need-remove-entry-requires
 remove-entry-requires c κs = search needs
 
 enum-told : tie.Need-enum-told
 enum-told c = search needs
 
--- src/build.rt:160:1
 returns : tie.Need-returns
 returns c = search (needs, remove-by)
 
--- src/build.rt:160:1
 returns-2 : tie.Need-returns-2
 returns-2 c = search (needs, remove-by)
 

@@ -2,18 +2,13 @@ use borrow.Author.Needs.{needs}
 use Rattle.events.proofs.RefusalLaws.{else-holds, else-none, else-kept}
 use Rattle.events.proofs.refuse.or_else.Statement.{statement}
 use Rattle.events.proofs.refuse.or_else.Tie as tie
-use Rattle.events.proofs.refuse.or_else.Reads as reads
-use Rattle.events.proofs.refuse.or_else.Lts as lts
 
--- src/refuse.rt:71:13
 returns : tie.Need-returns
 returns c = search (needs, else-holds)
 
--- src/refuse.rt:73:9
 returns-2 : tie.Need-returns-2
 returns-2 c = search (needs, else-none)
 
--- src/refuse.rt:66:1
 returns-3 : tie.Need-returns-3
 returns-3 c = search (needs, else-kept)
 

@@ -2,162 +2,112 @@ use Rattle.machine.proofs.ApplyLaws.{apply-by}
 use borrow.Author.Needs.{needs}
 use Rattle.machine.proofs.dispatch.apply.Statement.{statement}
 use Rattle.machine.proofs.dispatch.apply.Tie as tie
-use Rattle.machine.proofs.dispatch.apply.Reads as reads
-use Rattle.machine.proofs.dispatch.apply.Lts as lts
-use Rattle.machine.proofs.dispatch.apply_add.Reads as apply-add-reads
-use Rattle.machine.proofs.dispatch.apply_back_body.Reads as apply-back-body-reads
-use Rattle.machine.proofs.dispatch.apply_back_status.Reads as apply-back-status-reads
-use Rattle.machine.proofs.dispatch.apply_back_word.Reads as apply-back-word-reads
-use Rattle.machine.proofs.dispatch.apply_crash.Reads as apply-crash-reads
-use Rattle.machine.proofs.dispatch.apply_discard.Reads as apply-discard-reads
-use Rattle.machine.proofs.dispatch.apply_open.Reads as apply-open-reads
-use Rattle.machine.proofs.dispatch.apply_read.Reads as apply-read-reads
-use Rattle.machine.proofs.dispatch.apply_recover.Reads as apply-recover-reads
-use Rattle.machine.proofs.dispatch.apply_remove.Reads as apply-remove-reads
-use Rattle.machine.proofs.dispatch.apply_step.Reads as apply-step-reads
-use Rattle.machine.proofs.dispatch.apply_submit.Reads as apply-submit-reads
 
--- src/dispatch.rt:184:21
 enum-known-e : tie.Need-enum-known-e
 enum-known-e c = search needs
 
--- src/dispatch.rt:184:27
 apply-open-requires : tie.Need-apply-open-requires
 apply-open-requires c κs = search needs
 
--- src/dispatch.rt:185:20
 enum-known-e-2 : tie.Need-enum-known-e-2
 enum-known-e-2 c = search needs
 
--- src/dispatch.rt:185:54
 apply-add-requires : tie.Need-apply-add-requires
 apply-add-requires c κs = search needs
 
--- src/dispatch.rt:194:23
 enum-known-e-3 : tie.Need-enum-known-e-3
 enum-known-e-3 c = search needs
 
--- src/dispatch.rt:194:32
 apply-remove-requires : tie.Need-apply-remove-requires
 apply-remove-requires c κs = search needs
 
--- src/dispatch.rt:195:23
 enum-known-e-4 : tie.Need-enum-known-e-4
 enum-known-e-4 c = search needs
 
--- src/dispatch.rt:195:29
 apply-submit-requires : tie.Need-apply-submit-requires
 apply-submit-requires c κs = search needs
 
--- src/dispatch.rt:196:24
 enum-known-e-5 : tie.Need-enum-known-e-5
 enum-known-e-5 c = search needs
 
--- src/dispatch.rt:196:30
 apply-discard-requires : tie.Need-apply-discard-requires
 apply-discard-requires c κs = search needs
 
--- src/dispatch.rt:197:21
 enum-known-e-6 : tie.Need-enum-known-e-6
 enum-known-e-6 c = search needs
 
--- src/dispatch.rt:197:30
 apply-read-requires : tie.Need-apply-read-requires
 apply-read-requires c κs = search needs
 
--- src/dispatch.rt:198:21
 enum-known-e-7 : tie.Need-enum-known-e-7
 enum-known-e-7 c = search needs
 
--- src/dispatch.rt:198:27
 apply-step-requires : tie.Need-apply-step-requires
 apply-step-requires c κs = search needs
 
--- src/dispatch.rt:199:25
 enum-known-e-8 : tie.Need-enum-known-e-8
 enum-known-e-8 c = search needs
 
--- src/dispatch.rt:199:31
 apply-back-word-requires : tie.Need-apply-back-word-requires
 apply-back-word-requires c κs = search needs
 
--- src/dispatch.rt:200:27
 enum-known-e-9 : tie.Need-enum-known-e-9
 enum-known-e-9 c = search needs
 
--- src/dispatch.rt:200:33
 apply-back-status-requires : tie.Need-apply-back-status-requires
 apply-back-status-requires c κs = search needs
 
--- src/dispatch.rt:201:25
 enum-known-e-10 : tie.Need-enum-known-e-10
 enum-known-e-10 c = search needs
 
--- src/dispatch.rt:201:31
 apply-back-body-requires : tie.Need-apply-back-body-requires
 apply-back-body-requires c κs = search needs
 
--- src/dispatch.rt:202:37
 enum-told : tie.Need-enum-told
 enum-told c = search needs
 
--- src/dispatch.rt:202:25
 apply-crash-requires : tie.Need-apply-crash-requires
 apply-crash-requires c κs = search needs
 
--- src/dispatch.rt:203:41
 enum-told-2 : tie.Need-enum-told-2
 enum-told-2 c = search needs
 
--- src/dispatch.rt:203:27
 apply-recover-requires : tie.Need-apply-recover-requires
 apply-recover-requires c κs = search needs
 
--- src/dispatch.rt:180:1
 returns : tie.Need-returns
 returns c = search (needs, apply-by)
 
--- src/dispatch.rt:180:1
 returns-2 : tie.Need-returns-2
 returns-2 c = search (needs, apply-by)
 
--- src/dispatch.rt:180:1
 returns-3 : tie.Need-returns-3
 returns-3 c = search (needs, apply-by)
 
--- src/dispatch.rt:180:1
 returns-4 : tie.Need-returns-4
 returns-4 c = search (needs, apply-by)
 
--- src/dispatch.rt:180:1
 returns-5 : tie.Need-returns-5
 returns-5 c = search (needs, apply-by)
 
--- src/dispatch.rt:180:1
 returns-6 : tie.Need-returns-6
 returns-6 c = search (needs, apply-by)
 
--- src/dispatch.rt:180:1
 returns-7 : tie.Need-returns-7
 returns-7 c = search (needs, apply-by)
 
--- src/dispatch.rt:180:1
 returns-8 : tie.Need-returns-8
 returns-8 c = search (needs, apply-by)
 
--- src/dispatch.rt:180:1
 returns-9 : tie.Need-returns-9
 returns-9 c = search (needs, apply-by)
 
--- src/dispatch.rt:180:1
 returns-10 : tie.Need-returns-10
 returns-10 c = search (needs, apply-by)
 
--- src/dispatch.rt:180:1
 returns-11 : tie.Need-returns-11
 returns-11 c = search (needs, apply-by)
 
--- src/dispatch.rt:180:1
 returns-12 : tie.Need-returns-12
 returns-12 c = search (needs, apply-by)
 

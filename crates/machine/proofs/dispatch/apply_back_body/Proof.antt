@@ -2,24 +2,16 @@ use Rattle.machine.proofs.ApplyLaws.{body-done, body-refused}
 use borrow.Author.Needs.{needs}
 use Rattle.machine.proofs.dispatch.apply_back_body.Statement.{statement}
 use Rattle.machine.proofs.dispatch.apply_back_body.Tie as tie
-use Rattle.machine.proofs.dispatch.apply_back_body.Reads as reads
-use Rattle.machine.proofs.dispatch.apply_back_body.Lts as lts
-use Rattle.events.proofs.refuse_descriptor.Reads as refuse-descriptor-reads
-use Rattle.memory.proofs.back_body.Reads as back-body-reads
 
--- src/dispatch.rt:152:9
 refuse-descriptor-requires : tie.Need-refuse-descriptor-requires
 refuse-descriptor-requires c κs = search needs
 
--- src/dispatch.rt:154:9
 back-body-requires : tie.Need-back-body-requires
 back-body-requires c κs = search needs
 
--- src/dispatch.rt:155:9
 returns : tie.Need-returns
 returns c = search (needs, body-done)
 
--- src/dispatch.rt:149:1
 returns-2 : tie.Need-returns-2
 returns-2 c = search (needs, body-refused)
 

@@ -2,24 +2,16 @@ use Rattle.machine.proofs.ApplyLaws.{status-done, status-refused}
 use borrow.Author.Needs.{needs}
 use Rattle.machine.proofs.dispatch.apply_back_status.Statement.{statement}
 use Rattle.machine.proofs.dispatch.apply_back_status.Tie as tie
-use Rattle.machine.proofs.dispatch.apply_back_status.Reads as reads
-use Rattle.machine.proofs.dispatch.apply_back_status.Lts as lts
-use Rattle.events.proofs.refuse_descriptor.Reads as refuse-descriptor-reads
-use Rattle.memory.proofs.back_status.Reads as back-status-reads
 
--- src/dispatch.rt:141:9
 refuse-descriptor-requires : tie.Need-refuse-descriptor-requires
 refuse-descriptor-requires c κs = search needs
 
--- src/dispatch.rt:143:9
 back-status-requires : tie.Need-back-status-requires
 back-status-requires c κs = search needs
 
--- src/dispatch.rt:144:9
 returns : tie.Need-returns
 returns c = search (needs, status-done)
 
--- src/dispatch.rt:138:1
 returns-2 : tie.Need-returns-2
 returns-2 c = search (needs, status-refused)
 

@@ -2,24 +2,16 @@ use Rattle.machine.proofs.ApplyLaws.{word-done, word-refused}
 use borrow.Author.Needs.{needs}
 use Rattle.machine.proofs.dispatch.apply_back_word.Statement.{statement}
 use Rattle.machine.proofs.dispatch.apply_back_word.Tie as tie
-use Rattle.machine.proofs.dispatch.apply_back_word.Reads as reads
-use Rattle.machine.proofs.dispatch.apply_back_word.Lts as lts
-use Rattle.events.proofs.refuse_word.Reads as refuse-word-reads
-use Rattle.memory.proofs.back_word.Reads as back-word-reads
 
--- src/dispatch.rt:130:9
 refuse-word-requires : tie.Need-refuse-word-requires
 refuse-word-requires c κs = search needs
 
--- src/dispatch.rt:132:9
 back-word-requires : tie.Need-back-word-requires
 back-word-requires c κs = search needs
 
--- src/dispatch.rt:133:9
 returns : tie.Need-returns
 returns c = search (needs, word-done)
 
--- src/dispatch.rt:127:1
 returns-2 : tie.Need-returns-2
 returns-2 c = search (needs, word-refused)
 

@@ -2,15 +2,10 @@ use Rattle.machine.proofs.ApplyLaws.{crash-done}
 use borrow.Author.Needs.{needs}
 use Rattle.machine.proofs.dispatch.apply_crash.Statement.{statement}
 use Rattle.machine.proofs.dispatch.apply_crash.Tie as tie
-use Rattle.machine.proofs.dispatch.apply_crash.Reads as reads
-use Rattle.machine.proofs.dispatch.apply_crash.Lts as lts
-use Rattle.machine.proofs.recovery.crash.Reads as crash-reads
 
--- src/dispatch.rt:175:5
 crash-requires : tie.Need-crash-requires
 crash-requires c κs = search needs
 
--- src/dispatch.rt:172:1
 returns : tie.Need-returns
 returns c = search (needs, crash-done)
 

@@ -2,27 +2,19 @@ use Rattle.machine.proofs.RecoverLaws.{place-by}
 use borrow.Author.Needs.{needs}
 use Rattle.machine.proofs.recovery.place_after.Statement.{statement}
 use Rattle.machine.proofs.recovery.place_after.Tie as tie
-use Rattle.machine.proofs.recovery.place_after.Reads as reads
-use Rattle.machine.proofs.recovery.place_after.Lts as lts
-use Rattle.machine.proofs.recovery.visit_after.Reads as visit-after-reads
 
--- src/recovery.rt:44:20
 enum-known-n : tie.Need-enum-known-n
 enum-known-n c = search needs
 
--- src/recovery.rt:45:23
 enum-told : tie.Need-enum-told
 enum-told c = search needs
 
--- src/recovery.rt:45:23
 visit-after-requires : tie.Need-visit-after-requires
 visit-after-requires c κs = search needs
 
--- src/recovery.rt:40:1
 returns : tie.Need-returns
 returns c = search (needs, place-by)
 
--- src/recovery.rt:40:1
 returns-2 : tie.Need-returns-2
 returns-2 c = search (needs, place-by)
 

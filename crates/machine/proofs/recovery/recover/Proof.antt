@@ -2,27 +2,19 @@ use Rattle.machine.proofs.RecoverLaws.{recover-by}
 use borrow.Author.Needs.{needs}
 use Rattle.machine.proofs.recovery.recover.Statement.{statement}
 use Rattle.machine.proofs.recovery.recover.Tie as tie
-use Rattle.machine.proofs.recovery.recover.Reads as reads
-use Rattle.machine.proofs.recovery.recover.Lts as lts
-use Rattle.machine.proofs.recovery.recovery_step.Reads as recovery-step-reads
 
--- src/recovery.rt:76:35
 enum-told : tie.Need-enum-told
 enum-told c = search needs
 
--- src/recovery.rt:77:27
 enum-known-p : tie.Need-enum-known-p
 enum-known-p c = search needs
 
--- src/recovery.rt:77:36
 recovery-step-requires : tie.Need-recovery-step-requires
 recovery-step-requires c κs = search needs
 
--- src/recovery.rt:72:1
 returns : tie.Need-returns
 returns c = search (needs, recover-by)
 
--- src/recovery.rt:72:1
 returns-2 : tie.Need-returns-2
 returns-2 c = search (needs, recover-by)
 

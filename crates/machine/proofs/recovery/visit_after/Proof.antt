@@ -2,26 +2,19 @@ use Rattle.machine.proofs.RecoverLaws.{visit-next, visit-end, visit-pas
 use borrow.Author.Needs.{needs}
 use Rattle.machine.proofs.recovery.visit_after.Statement.{statement}
 use Rattle.machine.proofs.recovery.visit_after.Tie as tie
-use Rattle.machine.proofs.recovery.visit_after.Reads as reads
-use Rattle.machine.proofs.recovery.visit_after.Lts as lts
 
--- src/recovery.rt:31:12
 add-if2 : tie.Need-add-if2
 add-if2 c = search needs
 
--- src/recovery.rt:32:38
 add-t6 : tie.Need-add-t6
 add-t6 c = search needs
 
--- src/recovery.rt:32:13
 returns : tie.Need-returns
 returns c = search (needs, visit-next)
 
--- src/recovery.rt:34:9
 returns-2 : tie.Need-returns-2
 returns-2 c = search (needs, visit-end)
 
--- src/recovery.rt:27:1
 returns-3 : tie.Need-returns-3
 returns-3 c = search (needs, visit-past)
 

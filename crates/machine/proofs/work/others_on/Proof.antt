@@ -7,9 +7,6 @@ use native.Mathlib.Omega.{arith}
 use Rattle.machine.proofs.StepLaws.{others-found, others-next, others-none}
 use Rattle.machine.proofs.work.others_on.Statement.{statement}
 use Rattle.machine.proofs.work.others_on.Tie as tie
-use Rattle.machine.proofs.work.others_on.Reads as reads
-use Rattle.machine.proofs.work.others_on.Lts as lts
-use Rattle.machine.proofs.work.other_on.Reads as other-on-reads
 
 abbrev Inv-loop : tie.InvT-loop
 Inv-loop m w d v₀ v = (othersOn m w d v ≡ false) × (v ≤ 8)
@@ -17,32 +14,25 @@ Inv-loop m w d v₀ v = (othersOn m w d v ≡ false) × (v ≤ 8)
 abbrev μ-loop : tie.MeasureT-loop
 μ-loop m w d v₀ v = 8 - v
 
--- src/work.rt:97:5
 loop-holds : tie.Need-loop-holds Inv-loop μ-loop
 unfolding othersOn
 loop-holds c = (refl, omega arith)
 
--- src/work.rt:98:12
 other-on-requires : tie.Need-other-on-requires Inv-loop μ-loop
 other-on-requires c κs = search needs
 
--- src/work.rt:99:13
 returns : tie.Need-returns Inv-loop μ-loop
 returns c = search (needs, others-found)
 
--- src/work.rt:101:13
 add-v : tie.Need-add-v Inv-loop μ-loop
 add-v c = search needs
 
--- src/work.rt:97:5
 loop-less : tie.Need-loop-less Inv-loop μ-loop
 loop-less c = search needs
 
--- src/work.rt:97:5
 loop-again : tie.Need-loop-again Inv-loop μ-loop
 loop-again c = (search (needs, others-next), omega arith)
 
--- src/work.rt:93:1
 returns-2 : tie.Need-returns-2 Inv-loop μ-loop
 returns-2 c = search (needs, others-none)
 

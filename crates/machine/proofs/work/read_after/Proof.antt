@@ -2,30 +2,22 @@ use Rattle.machine.proofs.StepLaws.{read-after-by}
 use borrow.Author.Needs.{needs}
 use Rattle.machine.proofs.work.read_after.Statement.{statement}
 use Rattle.machine.proofs.work.read_after.Tie as tie
-use Rattle.machine.proofs.work.read_after.Reads as reads
-use Rattle.machine.proofs.work.read_after.Lts as lts
 
--- src/work.rt:193:24
 enum-known-n : tie.Need-enum-known-n
 enum-known-n c = search needs
 
--- src/work.rt:197:25
 enum-known-n-2 : tie.Need-enum-known-n-2
 enum-known-n-2 c = search needs
 
--- src/work.rt:198:31
 enum-told : tie.Need-enum-told
 enum-told c = search needs
 
--- src/work.rt:189:1
 returns : tie.Need-returns
 returns c = search (needs, read-after-by)
 
--- src/work.rt:189:1
 returns-2 : tie.Need-returns-2
 returns-2 c = search (needs, read-after-by)
 
--- src/work.rt:189:1
 returns-3 : tie.Need-returns-3
 returns-3 c = search needs
 

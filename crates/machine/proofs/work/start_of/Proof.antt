@@ -2,22 +2,16 @@ use Rattle.machine.proofs.StepLaws.{start-by}
 use borrow.Author.Needs.{needs}
 use Rattle.machine.proofs.work.start_of.Statement.{statement}
 use Rattle.machine.proofs.work.start_of.Tie as tie
-use Rattle.machine.proofs.work.start_of.Reads as reads
-use Rattle.machine.proofs.work.start_of.Lts as lts
 
--- src/work.rt:141:24
 enum-known-o : tie.Need-enum-known-o
 enum-known-o c = search needs
 
--- src/work.rt:142:19
 enum-known-o-2 : tie.Need-enum-known-o-2
 enum-known-o-2 c = search needs
 
--- src/work.rt:137:1
 returns : tie.Need-returns
 returns c = search (needs, start-by)
 
--- src/work.rt:137:1
 returns-2 : tie.Need-returns-2
 returns-2 c = search (needs, start-by)
 

@@ -2,61 +2,43 @@ use Rattle.machine.proofs.StepLaws.{step-by}
 use borrow.Author.Needs.{needs}
 use Rattle.machine.proofs.work.step.Statement.{statement}
 use Rattle.machine.proofs.work.step.Tie as tie
-use Rattle.machine.proofs.work.step.Reads as reads
-use Rattle.machine.proofs.work.step.Lts as lts
-use Rattle.machine.proofs.work.read_clear_step.Reads as read-clear-step-reads
-use Rattle.machine.proofs.work.read_step.Reads as read-step-reads
-use Rattle.machine.proofs.work.work_step.Reads as work-step-reads
 
--- src/work.rt:241:25
 enum-told : tie.Need-enum-told
 enum-told c = search needs
 
--- src/work.rt:242:32
 enum-told-2 : tie.Need-enum-told-2
 enum-told-2 c = search needs
 
--- src/work.rt:243:25
 enum-known-x : tie.Need-enum-known-x
 enum-known-x c = search needs
 
--- src/work.rt:243:37
 work-step-requires : tie.Need-work-step-requires
 work-step-requires c κs = search needs
 
--- src/work.rt:244:25
 enum-known-x-2 : tie.Need-enum-known-x-2
 enum-known-x-2 c = search needs
 
--- src/work.rt:244:31
 read-step-requires : tie.Need-read-step-requires
 read-step-requires c κs = search needs
 
--- src/work.rt:245:27
 enum-known-x-3 : tie.Need-enum-known-x-3
 enum-known-x-3 c = search needs
 
--- src/work.rt:245:36
 read-clear-step-requires : tie.Need-read-clear-step-requires
 read-clear-step-requires c κs = search needs
 
--- src/work.rt:237:1
 returns : tie.Need-returns
 returns c = search (needs, step-by)
 
--- src/work.rt:237:1
 returns-2 : tie.Need-returns-2
 returns-2 c = search (needs, step-by)
 
--- src/work.rt:237:1
 returns-3 : tie.Need-returns-3
 returns-3 c = search (needs, step-by)
 
--- src/work.rt:237:1
 returns-4 : tie.Need-returns-4
 returns-4 c = search (needs, step-by)
 
--- src/work.rt:237:1
 returns-5 : tie.Need-returns-5
 returns-5 c = search (needs, step-by)
 

@@ -2,51 +2,37 @@ use Rattle.machine.proofs.StepLaws.{after-by}
 use borrow.Author.Needs.{needs}
 use Rattle.machine.proofs.work.worker_after.Statement.{statement}
 use Rattle.machine.proofs.work.worker_after.Tie as tie
-use Rattle.machine.proofs.work.worker_after.Reads as reads
-use Rattle.machine.proofs.work.worker_after.Lts as lts
-use Rattle.machine.proofs.work.start_of.Reads as start-of-reads
 
--- src/work.rt:151:18
 enum-known-n : tie.Need-enum-known-n
 enum-known-n c = search needs
 
--- src/work.rt:152:20
 enum-known-n-2 : tie.Need-enum-known-n-2
 enum-known-n-2 c = search needs
 
--- src/work.rt:153:23
 enum-told : tie.Need-enum-told
 enum-told c = search needs
 
--- src/work.rt:153:23
 start-of-requires : tie.Need-start-of-requires
 start-of-requires c κs = search needs
 
--- src/work.rt:154:23
 enum-told-2 : tie.Need-enum-told-2
 enum-told-2 c = search needs
 
--- src/work.rt:155:28
 enum-told-3 : tie.Need-enum-told-3
 enum-told-3 c = search needs
 
--- src/work.rt:147:1
 returns : tie.Need-returns
 returns c = search (needs, after-by)
 
--- src/work.rt:147:1
 returns-2 : tie.Need-returns-2
 returns-2 c = search (needs, after-by)
 
--- src/work.rt:147:1
 returns-3 : tie.Need-returns-3
 returns-3 c = search (needs, after-by)
 
--- src/work.rt:147:1
 returns-4 : tie.Need-returns-4
 returns-4 c = search (needs, after-by)
 
--- src/work.rt:147:1
 returns-5 : tie.Need-returns-5
 returns-5 c = search needs
 

@@ -2,23 +2,16 @@ use Rattle.memory.proofs.FreshLaws.{sizes-read}
 use borrow.Author.Needs.{needs}
 use Rattle.memory.proofs.begin.read_sizes.Statement.{statement}
 use Rattle.memory.proofs.begin.read_sizes.Tie as tie
-use Rattle.memory.proofs.begin.read_sizes.Reads as reads
-use Rattle.memory.proofs.begin.read_sizes.Lts as lts
-use Rattle.memory.proofs.block.load.Reads as load-reads
 
--- src/begin.rt:10:16
 load-requires : tie.Need-load-requires
 load-requires c κs = search needs
 
--- src/begin.rt:10:33
 load-requires-2 : tie.Need-load-requires-2
 load-requires-2 c κs = search needs
 
--- src/begin.rt:10:50
 load-requires-3 : tie.Need-load-requires-3
 load-requires-3 c κs = search needs
 
--- src/begin.rt:7:1
 returns : tie.Need-returns
 returns c = search (needs, sizes-read)
 

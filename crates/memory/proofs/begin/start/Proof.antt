@@ -2,28 +2,19 @@ use Rattle.memory.proofs.FreshLaws.{fresh-begun}
 use borrow.Author.Needs.{needs}
 use Rattle.memory.proofs.begin.start.Statement.{statement}
 use Rattle.memory.proofs.begin.start.Tie as tie
-use Rattle.memory.proofs.begin.start.Reads as reads
-use Rattle.memory.proofs.begin.start.Lts as lts
-use Rattle.memory.proofs.begin.zero_all.Reads as zero-all-reads
-use Rattle.memory.proofs.block.save.Reads as save-reads
 
--- src/begin.rt:39:5
 zero-all-requires : tie.Need-zero-all-requires
 zero-all-requires c κs = search needs
 
--- src/begin.rt:40:5
 save-requires : tie.Need-save-requires
 save-requires c κs = search needs
 
--- src/begin.rt:41:5
 save-requires-2 : tie.Need-save-requires-2
 save-requires-2 c κs = search needs
 
--- src/begin.rt:42:5
 save-requires-3 : tie.Need-save-requires-3
 save-requires-3 c κs = search needs
 
--- src/begin.rt:36:1
 returns : tie.Need-returns
 returns c = search (needs, fresh-begun)
 

@@ -2,39 +2,28 @@ use Rattle.memory.proofs.SlotLaws.{body-in, body-past, body-out}
 use borrow.Author.Needs.{needs}
 use Rattle.memory.proofs.block.body_slot.Statement.{statement}
 use Rattle.memory.proofs.block.body_slot.Tie as tie
-use Rattle.memory.proofs.block.body_slot.Reads as reads
-use Rattle.memory.proofs.block.body_slot.Lts as lts
-use Rattle.memory.proofs.block.base.Reads as base-reads
 
--- src/lib.rt:74:20
 base-requires : tie.Need-base-requires
 base-requires c κs = search needs
 
--- src/lib.rt:74:20
 add-result : tie.Need-add-result
 add-result c = search needs
 
--- src/lib.rt:74:35
 mul-result : tie.Need-mul-result
 mul-result c = search needs
 
--- src/lib.rt:74:20
 add-result-2 : tie.Need-add-result-2
 add-result-2 c = search needs
 
--- src/lib.rt:74:20
 add-result-3 : tie.Need-add-result-3
 add-result-3 c = search needs
 
--- src/lib.rt:74:13
 returns : tie.Need-returns
 returns c = search (needs, body-in)
 
--- src/lib.rt:69:1
 returns-2 : tie.Need-returns-2
 returns-2 c = search (needs, body-past)
 
--- src/lib.rt:69:1
 returns-3 : tie.Need-returns-3
 returns-3 c = search (needs, body-out)
 

@@ -2,22 +2,16 @@ use Rattle.memory.proofs.SlotLaws.{at-in, at-out}
 use borrow.Author.Needs.{needs}
 use Rattle.memory.proofs.block.load.Statement.{statement}
 use Rattle.memory.proofs.block.load.Tie as tie
-use Rattle.memory.proofs.block.load.Reads as reads
-use Rattle.memory.proofs.block.load.Lts as lts
 
--- src/lib.rt:31:18
 mul-result : tie.Need-mul-result
 mul-result c = search needs
 
--- src/lib.rt:31:18
 element-copy-out-result : tie.Need-element-copy-out-result
 element-copy-out-result c = search needs
 
--- src/lib.rt:28:1
 returns : tie.Need-returns
 returns c = search (needs, at-in)
 
--- src/lib.rt:28:1
 returns-2 : tie.Need-returns-2
 returns-2 c = search (needs, at-out)
 

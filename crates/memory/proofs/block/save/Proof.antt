@@ -2,22 +2,16 @@ use Rattle.memory.proofs.SlotLaws.{store-in, store-out}
 use borrow.Author.Needs.{needs}
 use Rattle.memory.proofs.block.save.Statement.{statement}
 use Rattle.memory.proofs.block.save.Tie as tie
-use Rattle.memory.proofs.block.save.Reads as reads
-use Rattle.memory.proofs.block.save.Lts as lts
 
--- src/lib.rt:38:9
 mul-m : tie.Need-mul-m
 mul-m c = search needs
 
--- src/lib.rt:38:9
 element-write-m : tie.Need-element-write-m
 element-write-m c = search needs
 
--- src/lib.rt:34:1
 returns : tie.Need-returns
 returns c = search (needs, store-in)
 
--- src/lib.rt:34:1
 returns-2 : tie.Need-returns-2
 returns-2 c = search (needs, store-out)
 

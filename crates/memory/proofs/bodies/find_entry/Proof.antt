@@ -2,43 +2,31 @@ use Rattle.memory.proofs.BodyLaws.{first-0, first-1, first-2, first-3, 
 use borrow.Author.Needs.{needs}
 use Rattle.memory.proofs.bodies.find_entry.Statement.{statement}
 use Rattle.memory.proofs.bodies.find_entry.Tie as tie
-use Rattle.memory.proofs.bodies.find_entry.Reads as reads
-use Rattle.memory.proofs.bodies.find_entry.Lts as lts
-use Rattle.memory.proofs.bodies.has_at.Reads as has-at-reads
 
--- src/bodies.rt:115:8
 has-at-requires : tie.Need-has-at-requires
 has-at-requires c κs = search needs
 
--- src/bodies.rt:116:9
 returns : tie.Need-returns
 returns c = search (needs, first-0)
 
--- src/bodies.rt:118:8
 has-at-requires-2 : tie.Need-has-at-requires-2
 has-at-requires-2 c κs = search needs
 
--- src/bodies.rt:119:9
 returns-2 : tie.Need-returns-2
 returns-2 c = search (needs, first-1)
 
--- src/bodies.rt:121:8
 has-at-requires-3 : tie.Need-has-at-requires-3
 has-at-requires-3 c κs = search needs
 
--- src/bodies.rt:122:9
 returns-3 : tie.Need-returns-3
 returns-3 c = search (needs, first-2)
 
--- src/bodies.rt:124:8
 has-at-requires-4 : tie.Need-has-at-requires-4
 has-at-requires-4 c κs = search needs
 
--- src/bodies.rt:125:9
 returns-4 : tie.Need-returns-4
 returns-4 c = search (needs, first-3)
 
--- src/bodies.rt:112:1
 returns-5 : tie.Need-returns-5
 returns-5 c = search (needs, first-none)
 

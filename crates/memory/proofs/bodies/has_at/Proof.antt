@@ -2,24 +2,16 @@ use Rattle.memory.proofs.BodyLaws.{has-below, has-past}
 use borrow.Author.Needs.{needs}
 use Rattle.memory.proofs.bodies.has_at.Statement.{statement}
 use Rattle.memory.proofs.bodies.has_at.Tie as tie
-use Rattle.memory.proofs.bodies.has_at.Reads as reads
-use Rattle.memory.proofs.bodies.has_at.Lts as lts
-use Rattle.memory.proofs.bodies.read_count.Reads as read-count-reads
-use Rattle.memory.proofs.bodies.read_entry.Reads as read-entry-reads
 
--- src/bodies.rt:105:9
 read-entry-requires : tie.Need-read-entry-requires
 read-entry-requires c κs = search needs
 
--- src/bodies.rt:106:12
 read-count-requires : tie.Need-read-count-requires
 read-count-requires c κs = search needs
 
--- src/bodies.rt:107:9
 returns : tie.Need-returns
 returns c = search (needs, has-below)
 
--- src/bodies.rt:102:1
 returns-2 : tie.Need-returns-2
 returns-2 c = search (needs, has-past)
 

@@ -1,20 +1,13 @@
 use borrow.Author.Needs.{needs}
 use Rattle.memory.proofs.workers.put_number.Statement.{statement}
 use Rattle.memory.proofs.workers.put_number.Tie as tie
-use Rattle.memory.proofs.workers.put_number.Reads as reads
-use Rattle.memory.proofs.workers.put_number.Lts as lts
-use Rattle.memory.proofs.block.save.Reads as save-reads
-use Rattle.memory.proofs.block.worker_slot.Reads as worker-slot-reads
 
--- src/workers.rt:21:9
 worker-slot-requires : tie.Need-worker-slot-requires
 worker-slot-requires c κs = search needs
 
--- src/workers.rt:22:5
 save-requires : tie.Need-save-requires
 save-requires c κs = search needs
 
--- src/workers.rt:18:1
 returns : tie.Need-returns
 returns c = cc
 

@@ -2,28 +2,19 @@ use Rattle.memory.proofs.WorkerLaws.{recovery-put}
 use borrow.Author.Needs.{needs}
 use Rattle.memory.proofs.workers.put_recovery.Statement.{statement}
 use Rattle.memory.proofs.workers.put_recovery.Tie as tie
-use Rattle.memory.proofs.workers.put_recovery.Reads as reads
-use Rattle.memory.proofs.workers.put_recovery.Lts as lts
-use Rattle.codes.proofs.recovery_row.Reads as recovery-row-reads
-use Rattle.memory.proofs.block.save.Reads as save-reads
 
--- src/workers.rt:72:9
 recovery-row-requires : tie.Need-recovery-row-requires
 recovery-row-requires c κs = search needs
 
--- src/workers.rt:73:5
 save-requires : tie.Need-save-requires
 save-requires c κs = search needs
 
--- src/workers.rt:74:5
 save-requires-2 : tie.Need-save-requires-2
 save-requires-2 c κs = search needs
 
--- src/workers.rt:75:5
 save-requires-3 : tie.Need-save-requires-3
 save-requires-3 c κs = search needs
 
--- src/workers.rt:69:1
 returns : tie.Need-returns
 returns c = search (needs, recovery-put)
 

@@ -2,40 +2,28 @@ use Rattle.memory.proofs.WorkerLaws.{worker-put}
 use borrow.Author.Needs.{needs}
 use Rattle.memory.proofs.workers.put_worker.Statement.{statement}
 use Rattle.memory.proofs.workers.put_worker.Tie as tie
-use Rattle.memory.proofs.workers.put_worker.Reads as reads
-use Rattle.memory.proofs.workers.put_worker.Lts as lts
-use Rattle.codes.proofs.row_of.Reads as row-of-reads
-use Rattle.memory.proofs.workers.put_number.Reads as put-number-reads
 
--- src/workers.rt:42:9
 row-of-requires : tie.Need-row-of-requires
 row-of-requires c κs = search needs
 
--- src/workers.rt:43:5
 put-number-requires : tie.Need-put-number-requires
 put-number-requires c κs = search needs
 
--- src/workers.rt:44:5
 put-number-requires-2 : tie.Need-put-number-requires-2
 put-number-requires-2 c κs = search needs
 
--- src/workers.rt:45:5
 put-number-requires-3 : tie.Need-put-number-requires-3
 put-number-requires-3 c κs = search needs
 
--- src/workers.rt:46:5
 put-number-requires-4 : tie.Need-put-number-requires-4
 put-number-requires-4 c κs = search needs
 
--- src/workers.rt:47:5
 put-number-requires-5 : tie.Need-put-number-requires-5
 put-number-requires-5 c κs = search needs
 
--- src/workers.rt:48:5
 put-number-requires-6 : tie.Need-put-number-requires-6
 put-number-requires-6 c κs = search needs
 
--- src/workers.rt:39:1
 returns : tie.Need-returns
 returns c =
     let p5 = c .before .before in

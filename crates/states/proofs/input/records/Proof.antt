@@ -5,9 +5,6 @@ use lib.ListN.{length}
 use borrow.Author.Needs.{needs}
 use Rattle.states.proofs.input.records.Statement.{statement}
 use Rattle.states.proofs.input.records.Tie as tie
-use Rattle.states.proofs.input.records.Reads as reads
-use Rattle.states.proofs.input.records.Lts as lts
-use Rattle.states.proofs.input.record.Reads as record-reads
 
 abbrev Inv-loop : tie.InvT-loop
 Inv-loop s page₀ start m₀ at₀ i₀ count₀ left₀ page m at i count left = length page ≡ length page₀
@@ -15,43 +12,33 @@ Inv-loop s page₀ start m₀ at₀ i₀ count₀ left₀ page m at i count left
 abbrev μ-loop : tie.MeasureT-loop
 μ-loop s page₀ start m₀ at₀ i₀ count₀ left₀ page m at i count left = left
 
--- src/input.rt:118:5
 loop-holds : tie.Need-loop-holds Inv-loop μ-loop
 loop-holds c = search needs
 
--- src/input.rt:120:13
 same-length : tie.Need-same-length Inv-loop μ-loop
 same-length c = search needs
 
--- src/input.rt:120:13
 returns : tie.Need-returns Inv-loop μ-loop
 returns c = search needs
 
--- src/input.rt:122:13
 record-requires : tie.Need-record-requires Inv-loop μ-loop
 record-requires c κs = search needs
 
--- src/input.rt:125:17
 add-count : tie.Need-add-count Inv-loop μ-loop
 add-count c = search needs
 
--- src/input.rt:126:16
 sub-left : tie.Need-sub-left Inv-loop μ-loop
 sub-left c = search needs
 
--- src/input.rt:118:5
 loop-less : tie.Need-loop-less Inv-loop μ-loop
 loop-less c = search needs
 
--- src/input.rt:118:5
 loop-again : tie.Need-loop-again Inv-loop μ-loop
 loop-again c = search needs
 
--- src/input.rt:113:1
 same-length-2 : tie.Need-same-length-2 Inv-loop μ-loop
 same-length-2 c = search needs
 
--- src/input.rt:113:1
 returns-2 : tie.Need-returns-2 Inv-loop μ-loop
 returns-2 c = search needs
 

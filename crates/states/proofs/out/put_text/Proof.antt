@@ -5,9 +5,6 @@ use lib.ListN.{length}
 use borrow.Author.Needs.{needs}
 use Rattle.states.proofs.out.put_text.Statement.{statement}
 use Rattle.states.proofs.out.put_text.Tie as tie
-use Rattle.states.proofs.out.put_text.Reads as reads
-use Rattle.states.proofs.out.put_text.Lts as lts
-use Rattle.states.proofs.out.put.Reads as put-reads
 
 abbrev Inv-loop : tie.InvT-loop
 Inv-loop page₀ at text to₀ i₀ page to i = (i ≤ length text) × (length page ≡ length page₀)
@@ -15,35 +12,27 @@ Inv-loop page₀ at text to₀ i₀ page to i = (i ≤ length text) × (length p
 abbrev μ-loop : tie.MeasureT-loop
 μ-loop page₀ at text to₀ i₀ page to i = length text - i
 
--- src/out.rt:32:5
 loop-holds : tie.Need-loop-holds Inv-loop μ-loop
 loop-holds c = search needs
 
--- src/out.rt:33:28
 shared-slice-read-put : tie.Need-shared-slice-read-put Inv-loop μ-loop
 shared-slice-read-put c = search needs
 
--- src/out.rt:33:9
 put-requires : tie.Need-put-requires Inv-loop μ-loop
 put-requires c κs = search needs
 
--- src/out.rt:34:9
 add-i : tie.Need-add-i Inv-loop μ-loop
 add-i c = search needs
 
--- src/out.rt:32:5
 loop-less : tie.Need-loop-less Inv-loop μ-loop
 loop-less c = search needs
 
--- src/out.rt:32:5
 loop-again : tie.Need-loop-again Inv-loop μ-loop
 loop-again c = search needs
 
--- src/out.rt:29:1
 same-length : tie.Need-same-length Inv-loop μ-loop
 same-length c = search needs
 
--- src/out.rt:29:1
 returns : tie.Need-returns Inv-loop μ-loop
 returns c = search needs
 

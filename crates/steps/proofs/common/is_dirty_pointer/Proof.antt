@@ -2,40 +2,28 @@ use Rattle.steps.proofs.Laws.{dirty-pointer-by}
 use borrow.Author.Needs.{needs}
 use Rattle.steps.proofs.common.is_dirty_pointer.Statement.{statement}
 use Rattle.steps.proofs.common.is_dirty_pointer.Tie as tie
-use Rattle.steps.proofs.common.is_dirty_pointer.Reads as reads
-use Rattle.steps.proofs.common.is_dirty_pointer.Lts as lts
-use Rattle.steps.proofs.common.same.Reads as same-reads
-use Rattle.steps.proofs.common.when.Reads as when-reads
 
--- src/common.rt:37:30
 enum-told : tie.Need-enum-told
 enum-told c = search needs
 
--- src/common.rt:38:23
 enum-known-s : tie.Need-enum-known-s
 enum-known-s c = search needs
 
--- src/common.rt:38:48
 same-requires : tie.Need-same-requires
 same-requires c κs = search needs
 
--- src/common.rt:38:36
 when-requires : tie.Need-when-requires
 when-requires c κs = search needs
 
--- src/common.rt:39:29
 enum-told-2 : tie.Need-enum-told-2
 enum-told-2 c = search needs
 
--- src/common.rt:33:1
 returns : tie.Need-returns
 returns c = search needs
 
--- src/common.rt:33:1
 returns-2 : tie.Need-returns-2
 returns-2 c = search (needs, dirty-pointer-by)
 
--- src/common.rt:33:1
 returns-3 : tie.Need-returns-3
 returns-3 c = search needs
 

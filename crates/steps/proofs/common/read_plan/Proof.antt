@@ -2,34 +2,25 @@ use Rattle.steps.proofs.Laws.{read-dirty, read-clean, read-by}
 use borrow.Author.Needs.{needs}
 use Rattle.steps.proofs.common.read_plan.Statement.{statement}
 use Rattle.steps.proofs.common.read_plan.Tie as tie
-use Rattle.steps.proofs.common.read_plan.Reads as reads
-use Rattle.steps.proofs.common.read_plan.Lts as lts
 
--- src/common.rt:119:21
 enum-known-s : tie.Need-enum-known-s
 enum-known-s c = search needs
 
--- src/common.rt:121:17
 returns : tie.Need-returns
 returns c = search (needs, read-dirty, read-clean, read-by)
 
--- src/common.rt:131:23
 enum-known-s-2 : tie.Need-enum-known-s-2
 enum-known-s-2 c = search needs
 
--- src/common.rt:136:21
 enum-told : tie.Need-enum-told
 enum-told c = search needs
 
--- src/common.rt:115:1
 returns-2 : tie.Need-returns-2
 returns-2 c = search (needs, read-dirty, read-clean, read-by)
 
--- src/common.rt:115:1
 returns-3 : tie.Need-returns-3
 returns-3 c = search (needs, read-dirty, read-clean, read-by)
 
--- src/common.rt:115:1
 returns-4 : tie.Need-returns-4
 returns-4 c = search (needs, read-dirty, read-clean, read-by)
 

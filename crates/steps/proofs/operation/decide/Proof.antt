@@ -2,55 +2,40 @@ use Rattle.steps.proofs.Laws.{decide-by}
 use borrow.Author.Needs.{needs}
 use Rattle.steps.proofs.operation.decide.Statement.{statement}
 use Rattle.steps.proofs.operation.decide.Tie as tie
-use Rattle.steps.proofs.operation.decide.Reads as reads
-use Rattle.steps.proofs.operation.decide.Lts as lts
-use Rattle.steps.proofs.common.goes.Reads as goes-reads
 
--- src/operation.rt:119:30
 enum-told : tie.Need-enum-told
 enum-told c = search needs
 
--- src/operation.rt:119:25
 goes-requires : tie.Need-goes-requires
 goes-requires c κs = search needs
 
--- src/operation.rt:121:17
 enum-told-2 : tie.Need-enum-told-2
 enum-told-2 c = search needs
 
--- src/operation.rt:122:13
 goes-requires-2 : tie.Need-goes-requires-2
 goes-requires-2 c κs = search needs
 
--- src/operation.rt:124:39
 enum-told-3 : tie.Need-enum-told-3
 enum-told-3 c = search needs
 
--- src/operation.rt:124:34
 goes-requires-3 : tie.Need-goes-requires-3
 goes-requires-3 c κs = search needs
 
--- src/operation.rt:125:32
 enum-told-4 : tie.Need-enum-told-4
 enum-told-4 c = search needs
 
--- src/operation.rt:125:27
 goes-requires-4 : tie.Need-goes-requires-4
 goes-requires-4 c κs = search needs
 
--- src/operation.rt:115:1
 returns : tie.Need-returns
 returns c = search (needs, decide-by)
 
--- src/operation.rt:115:1
 returns-2 : tie.Need-returns-2
 returns-2 c = search (needs, decide-by)
 
--- src/operation.rt:115:1
 returns-3 : tie.Need-returns-3
 returns-3 c = search (needs, decide-by)
 
--- src/operation.rt:115:1
 returns-4 : tie.Need-returns-4
 returns-4 c = search (needs, decide-by)
 

@@ -2,56 +2,40 @@ use Rattle.steps.proofs.Laws.{install-by}
 use borrow.Author.Needs.{needs}
 use Rattle.steps.proofs.operation.install.Statement.{statement}
 use Rattle.steps.proofs.operation.install.Tie as tie
-use Rattle.steps.proofs.operation.install.Reads as reads
-use Rattle.steps.proofs.operation.install.Lts as lts
-use Rattle.steps.proofs.common.goes.Reads as goes-reads
-use Rattle.steps.proofs.operation.install_word.Reads as install-word-reads
 
--- src/operation.rt:73:30
 enum-told : tie.Need-enum-told
 enum-told c = search needs
 
--- src/operation.rt:73:25
 goes-requires : tie.Need-goes-requires
 goes-requires c κs = search needs
 
--- src/operation.rt:74:30
 enum-told-2 : tie.Need-enum-told-2
 enum-told-2 c = search needs
 
--- src/operation.rt:74:30
 install-word-requires : tie.Need-install-word-requires
 install-word-requires c κs = search needs
 
--- src/operation.rt:75:39
 enum-told-3 : tie.Need-enum-told-3
 enum-told-3 c = search needs
 
--- src/operation.rt:75:34
 goes-requires-2 : tie.Need-goes-requires-2
 goes-requires-2 c κs = search needs
 
--- src/operation.rt:76:32
 enum-told-4 : tie.Need-enum-told-4
 enum-told-4 c = search needs
 
--- src/operation.rt:76:27
 goes-requires-3 : tie.Need-goes-requires-3
 goes-requires-3 c κs = search needs
 
--- src/operation.rt:67:1
 returns : tie.Need-returns
 returns c = search (needs, install-by)
 
--- src/operation.rt:67:1
 returns-2 : tie.Need-returns-2
 returns-2 c = search (needs, install-by)
 
--- src/operation.rt:67:1
 returns-3 : tie.Need-returns-3
 returns-3 c = search (needs, install-by)
 
--- src/operation.rt:67:1
 returns-4 : tie.Need-returns-4
 returns-4 c = search (needs, install-by)
 

@@ -2,26 +2,19 @@ use Rattle.steps.proofs.Laws.{more-then, more-done, more-past}
 use borrow.Author.Needs.{needs}
 use Rattle.steps.proofs.operation.more_of.Statement.{statement}
 use Rattle.steps.proofs.operation.more_of.Tie as tie
-use Rattle.steps.proofs.operation.more_of.Reads as reads
-use Rattle.steps.proofs.operation.more_of.Lts as lts
 
--- src/operation.rt:13:12
 add-if2 : tie.Need-add-if2
 add-if2 c = search needs
 
--- src/operation.rt:14:31
 add-t6 : tie.Need-add-t6
 add-t6 c = search needs
 
--- src/operation.rt:14:13
 returns : tie.Need-returns
 returns c = search (needs, more-then)
 
--- src/operation.rt:9:1
 returns-2 : tie.Need-returns-2
 returns-2 c = search (needs, more-done)
 
--- src/operation.rt:9:1
 returns-3 : tie.Need-returns-3
 returns-3 c = search (needs, more-past)
 

@@ -2,22 +2,16 @@ use Rattle.steps.proofs.Laws.{persisted-by}
 use borrow.Author.Needs.{needs}
 use Rattle.steps.proofs.operation.persisted.Statement.{statement}
 use Rattle.steps.proofs.operation.persisted.Tie as tie
-use Rattle.steps.proofs.operation.persisted.Reads as reads
-use Rattle.steps.proofs.operation.persisted.Lts as lts
 
--- src/operation.rt:94:20
 enum-known-k : tie.Need-enum-known-k
 enum-known-k c = search needs
 
--- src/operation.rt:99:35
 enum-told : tie.Need-enum-told
 enum-told c = search needs
 
--- src/operation.rt:90:1
 returns : tie.Need-returns
 returns c = search (needs, persisted-by)
 
--- src/operation.rt:90:1
 returns-2 : tie.Need-returns-2
 returns-2 c = search (needs, persisted-by)
 

@@ -2,63 +2,46 @@ use Rattle.steps.proofs.Laws.{settle-dirty, settle-clean, settle-by}
 use borrow.Author.Needs.{needs}
 use Rattle.steps.proofs.operation.settle.Statement.{statement}
 use Rattle.steps.proofs.operation.settle.Tie as tie
-use Rattle.steps.proofs.operation.settle.Reads as reads
-use Rattle.steps.proofs.operation.settle.Lts as lts
-use Rattle.steps.proofs.common.goes.Reads as goes-reads
 
--- src/operation.rt:134:30
 enum-told : tie.Need-enum-told
 enum-told c = search needs
 
--- src/operation.rt:134:25
 goes-requires : tie.Need-goes-requires
 goes-requires c κs = search needs
 
--- src/operation.rt:135:35
 enum-told-2 : tie.Need-enum-told-2
 enum-told-2 c = search needs
 
--- src/operation.rt:135:30
 goes-requires-2 : tie.Need-goes-requires-2
 goes-requires-2 c κs = search needs
 
--- src/operation.rt:136:28
 enum-known-t : tie.Need-enum-known-t
 enum-known-t c = search needs
 
--- src/operation.rt:138:17
 goes-requires-3 : tie.Need-goes-requires-3
 goes-requires-3 c κs = search needs
 
--- src/operation.rt:138:17
 returns : tie.Need-returns
 returns c = search (needs, settle-dirty, settle-clean, settle-by)
 
--- src/operation.rt:140:13
 goes-requires-4 : tie.Need-goes-requires-4
 goes-requires-4 c κs = search needs
 
--- src/operation.rt:142:32
 enum-told-3 : tie.Need-enum-told-3
 enum-told-3 c = search needs
 
--- src/operation.rt:142:27
 goes-requires-5 : tie.Need-goes-requires-5
 goes-requires-5 c κs = search needs
 
--- src/operation.rt:130:1
 returns-2 : tie.Need-returns-2
 returns-2 c = search (needs, settle-dirty, settle-clean, settle-by)
 
--- src/operation.rt:130:1
 returns-3 : tie.Need-returns-3
 returns-3 c = search (needs, settle-dirty, settle-clean, settle-by)
 
--- src/operation.rt:130:1
 returns-4 : tie.Need-returns-4
 returns-4 c = search (needs, settle-dirty, settle-clean, settle-by)
 
--- src/operation.rt:130:1
 returns-5 : tie.Need-returns-5
 returns-5 c = search (needs, settle-dirty, settle-clean, settle-by)
 

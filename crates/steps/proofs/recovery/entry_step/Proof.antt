@@ -2,46 +2,31 @@ use Rattle.steps.proofs.Laws.{entry-word, entry-back}
 use borrow.Author.Needs.{needs}
 use Rattle.steps.proofs.recovery.entry_step.Statement.{statement}
 use Rattle.steps.proofs.recovery.entry_step.Tie as tie
-use Rattle.steps.proofs.recovery.entry_step.Reads as reads
-use Rattle.steps.proofs.recovery.entry_step.Lts as lts
-use Rattle.steps.proofs.common.left_value.Reads as left-value-reads
-use Rattle.steps.proofs.common.points_to.Reads as points-to-reads
-use Rattle.steps.proofs.common.store_if.Reads as store-if-reads
-use Rattle.steps.proofs.recovery.step.Reads as step-reads
 
--- src/recovery.rt:25:13
 points-to-requires : tie.Need-points-to-requires
 points-to-requires c κs = search needs
 
--- src/recovery.rt:26:13
 left-value-requires : tie.Need-left-value-requires
 left-value-requires c κs = search needs
 
--- src/recovery.rt:27:21
 store-if-requires : tie.Need-store-if-requires
 store-if-requires c κs = search needs
 
--- src/recovery.rt:27:79
 add-t13 : tie.Need-add-t13
 add-t13 c = search needs
 
--- src/recovery.rt:27:9
 step-requires : tie.Need-step-requires
 step-requires c κs = search needs
 
--- src/recovery.rt:27:9
 returns : tie.Need-returns
 returns c = search (needs, entry-word)
 
--- src/recovery.rt:29:50
 add-t9 : tie.Need-add-t9
 add-t9 c = search needs
 
--- src/recovery.rt:29:5
 step-requires-2 : tie.Need-step-requires-2
 step-requires-2 c κs = search needs
 
--- src/recovery.rt:17:1
 returns-2 : tie.Need-returns-2
 returns-2 c = search (needs, entry-back)
 

@@ -3,15 +3,8 @@ use Prim.Native.Nat.{_≤_, _<_, _+_, _-_}
 use native.Mathlib.Omega.{arith}
 use lib.ListN.{length}
 use borrow.Author.Needs.{needs}
-use Rattle.states.proofs.lines.values_line.Statement.{statement}
-use Rattle.states.proofs.lines.values_line.Tie as tie
-use Rattle.states.proofs.lines.values_line.Reads as reads
-use Rattle.states.proofs.lines.values_line.Lts as lts
-use Rattle.memory.proofs.read_sizes.Reads as read-sizes-reads
-use Rattle.states.proofs.lines.put_value.Reads as put-value-reads
-use Rattle.states.proofs.out.put.Reads as put-reads
-use Rattle.states.proofs.out.put_end.Reads as put-end-reads
-use Rattle.states.proofs.out.room.Reads as room-reads
+use Rattle.states.proofs.answers.values_line.Statement.{statement}
+use Rattle.states.proofs.answers.values_line.Tie as tie
 
 abbrev Inv-loop : tie.InvT-loop
 Inv-loop page₀ at m s to₀ a₀ page to a = length page ≡ length page₀
@@ -19,47 +12,36 @@ Inv-loop page₀ at m s to₀ a₀ page to a = length page ≡ length page₀
 abbrev μ-loop : tie.MeasureT-loop
 μ-loop page₀ at m s to₀ a₀ page to a = 64 - a
 
--- src/lines.rt:284:9
 read-sizes-requires : tie.Need-read-sizes-requires Inv-loop μ-loop
 read-sizes-requires c κs = search needs
 
--- src/lines.rt:285:28
 room-requires : tie.Need-room-requires Inv-loop μ-loop
 room-requires c κs = search needs
 
--- src/lines.rt:285:9
 put-requires : tie.Need-put-requires Inv-loop μ-loop
 put-requires c κs = search needs
 
--- src/lines.rt:287:5
 loop-holds : tie.Need-loop-holds Inv-loop μ-loop
 loop-holds c = search needs
 
--- src/lines.rt:288:9
 put-value-requires : tie.Need-put-value-requires Inv-loop μ-loop
 put-value-requires c κs = search needs
 
--- src/lines.rt:289:9
 add-a : tie.Need-add-a Inv-loop μ-loop
 add-a c = search needs
 
--- src/lines.rt:287:5
 loop-less : tie.Need-loop-less Inv-loop μ-loop
 loop-less c = search needs
 
--- src/lines.rt:287:5
 loop-again : tie.Need-loop-again Inv-loop μ-loop
 loop-again c = search needs
 
--- src/lines.rt:291:5
 put-end-requires : tie.Need-put-end-requires Inv-loop μ-loop
 put-end-requires c κs = search needs
 
--- src/lines.rt:283:1
 same-length : tie.Need-same-length Inv-loop μ-loop
 same-length c = search needs
 
--- src/lines.rt:283:1
 returns : tie.Need-returns Inv-loop μ-loop
 returns c = search needs
 
