@@ -12,5 +12,6 @@ for round in 1 2 3; do
     start=$(date +%s%N)
     sum=$(echo $events | target/bin/bench)
     end=$(date +%s%N)
-    echo "bench: $events events, $(((end - start) / (events / 1000)))e-3 ns an event, checksum $sum"
+    tenths=$(((end - start) / (events / 10)))
+    echo "bench: $events events, ${tenths%?}.${tenths#"${tenths%?}"} ns an event, checksum $sum"
 done

@@ -17,3 +17,13 @@ else
     echo "known runs: skipped, they need python3"
 fi
 sh tests/model/compare.sh 1 "${SEEDS:-2000}"
+status=$?
+
+# What our machine shows keeps the ledger: it changes only when a Succeeded reaches persisted memory, and every value is the ledger's.
+seed=1
+while [ "$seed" -le 300 ]; do
+    build/model/gen "$seed" | target/bin/states
+    seed=$((seed + 1))
+done | build/model/ledger >build/ledger.log || status=1
+head -n 2 build/ledger.log
+exit $status

@@ -30,7 +30,7 @@ abbrev pub installed : More → Next
 installed (Then j) = Go (Install j)
 installed Done = Go (Persist 0)
 
--- a dirty plain word: write it back; a clean word equal to expected: store a pointer to d, dirty; another clean word: go to 4 with Failed
+-- a dirty plain word: write it back (A1 13); a clean word equal to expected: store a pointer to d, dirty; another clean word: go to 4 with Failed
 abbrev pub installPlain : ℕ → ℕ → Seen → ℕ → Bool → Plan
 installPlain i d s v true = planned (BackWord (s .entry .address)) (Go (InstallClear i v))
 installPlain i d s v false =
@@ -53,7 +53,7 @@ installBy i d s (Bad x) = planned Nothing (Go Settle)
 unfoldable pub install : ℕ → ℕ → Seen → Plan
 install i d s = installBy i d s (s .status)
 
--- the next step clears the dirty bit if the word still has that exact content; then this entry again
+-- the next step clears the dirty bit if the word still has that exact content (A1 14); then this entry again (A2 4)
 unfoldable pub installClear : ℕ → ℕ → Seen → Plan
 installClear i v s = planned (storeIf (isDirtyPlain (s .word) v) (s .entry .address) (Plain v false)) (Go (Install i))
 
@@ -106,12 +106,12 @@ swapClear i s owner =
     (Plain (leftValue (s .status) (s .entry)) false))
     (swapped owner (moreOf i (s .count)))
 
--- 7. The owner, who alone comes here (`swapDone`), stores Free, answering W and changing nothing while another worker's current job is d
+-- 7 (A2 38; section 5.1). The owner, who alone comes here (`swapDone`), stores Free, answering W and changing nothing while another worker's current job is d
 abbrev pub storeFree : Bool → Status → Plan
 storeFree true s = planned Nothing Wait
 storeFree false s = planned (StoreStatus Free) (Go (BackFree (outcomeOf s)))
 
--- every step of an operation; 1 is the owner's only, since a helper begins at Install 0
+-- every step of an operation; 1 (section 4.4) is the owner's only, since a helper begins at Install 0; 3 and 6 write back in a step of their own
 abbrev pub planOf : Place → ℕ → Seen → Bool → Bool → Plan
 planOf BackBody d s busy owner = planned E.the-variants.BackBody (Go StoreUndecided)
 planOf StoreUndecided d s busy owner = planned (StoreStatus Undecided) (Go BackUndecided)

@@ -1,4 +1,4 @@
--- What the rules share: tests of a word, the value that an operation leaves, one store; and the read.
+-- In `A3 12`, 12 is the line of the paper's Algorithm 3. What the rules share: tests of a word, the value that an operation leaves, one store; and the read.
 use mathlib.Core.Bool.{Bool, true, false, cond, _&&_}
 use Prim.Native.Nat.{ℕ}
 use lib.Dec.{eqb}
@@ -62,7 +62,7 @@ leftValue s e = chosen (outcomeOf s) e
 abbrev pub storeIf : Bool → ℕ → Sort → Effect
 storeIf t a s = cond t (StoreWord a s) Nothing
 
--- Read: a pointer to e is helped; a clean word is answered; a dirty plain word is written back. (A number that is no word, which is never met, is
+-- Read: a pointer to e is helped (A3 12-14); a clean word is answered (A3 3, 15); a dirty plain word is written back (A3 8-9). (A number that is no word, which is never met, is
 -- answered 0, its value.)
 abbrev pub readBy : ℕ → ℕ → Bool → ReadPlan
 readBy a v true = record { effect = BackWord a; next = Clear v }
@@ -73,6 +73,6 @@ readPlan a (Plain v dirty) = readBy a v dirty
 readPlan a (Pointer e dirty) = record { effect = Nothing; next = Meet e }
 readPlan a (Neither w) = record { effect = Nothing; next = Value 0 }
 
--- the next step clears the bit if the word is unchanged, and answers the value first seen
+-- the next step clears the bit if the word is unchanged, and answers the value first seen (A3 9-10, 15)
 abbrev pub readClearPlan : ℕ → ℕ → Sort → ReadPlan
 readClearPlan a v s = record { effect = storeIf (isDirtyPlain s v) a (Plain v false); next = Value v }
