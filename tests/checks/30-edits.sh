@@ -1,5 +1,6 @@
 #!/bin/sh
-# A must-fail edit counts only if a fact failed: not where the proof file no longer names the code's needs.
+# A must-fail edit does not count where the proof file no longer names the code's needs. That a fact fails is more than this can see:
+# docs/PROMISES.md says which, from reading each log.
 bad=0
 for log in target/must-fail/*/*/.log; do
     [ -f "$log" ] || continue
@@ -9,5 +10,5 @@ for log in target/must-fail/*/*/.log; do
         bad=1
     fi
 done
-[ $bad = 0 ] && echo "edits: each was refused by a fact"
+[ $bad = 0 ] && echo "edits: no refusal is only a proof file that no longer fits"
 exit $bad

@@ -26,4 +26,6 @@ while [ "$seed" -le 300 ]; do
     seed=$((seed + 1))
 done | build/model/ledger >build/ledger.log || status=1
 head -n 2 build/ledger.log
+# the ledger's check holds of no input at all: it must have seen every schedule
+grep -q '^300 schedules ' build/ledger.log || status=1
 exit $status
