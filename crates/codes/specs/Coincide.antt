@@ -3,21 +3,21 @@ use mathlib.Core.Path.{_≡_}
 use Prim.Native.Nat.{ℕ}
 use Rattle.word.specs.Coincide.{coincide}
 use Rattle.steps.specs.declared.Place.{Place}
+use Rattle.steps.specs.declared.Own.{Own}
 use Rattle.steps.specs.declared.Worker.{Worker}
 use Rattle.steps.specs.declared.RecoveryPlace.{RecoveryPlace}
 use Rattle.codes.specs.declared.Row.{Row}
 use Rattle.codes.specs.declared.RecoveryRow.{RecoveryRow}
-use Rattle.codes.specs.Place.{placeEntry}
-use Rattle.codes.specs.Row.{workerOf, rowOf, recoveryOf, recoveryRow}
-
-pub place-entry : (p : Place) (r s : ℕ) → r ≡ placeEntry p → s ≡ placeEntry p → r ≡ s
-place-entry p r s = coincide
+use Rattle.codes.specs.Row.{workerOf, rowOf, rowWorking, recoveryOf, recoveryRow}
 
 pub worker-of : (x : Row) (r s : Worker) → r ≡ workerOf x → s ≡ workerOf x → r ≡ s
 worker-of x r s = coincide
 
 pub row-of : (x : Worker) (r s : Row) → r ≡ rowOf x → s ≡ rowOf x → r ≡ s
 row-of x r s = coincide
+
+pub row-working : (o : Own) (job : ℕ) (p : Place) (r s : Row) → r ≡ rowWorking o job p → s ≡ rowWorking o job p → r ≡ s
+row-working o job p r s = coincide
 
 pub recovery-of : (x : RecoveryRow) (r s : RecoveryPlace) → r ≡ recoveryOf x → s ≡ recoveryOf x → r ≡ s
 recovery-of x r s = coincide

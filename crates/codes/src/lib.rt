@@ -81,7 +81,7 @@ fn place_number(p: Place) -> u64
 }
 
 // The entry that a place is at; 0 where it is at none.
-pub fn place_entry(p: Place) -> u64
+fn place_entry(p: Place) -> u64
     ensures { λ r. ⌜ r ≡ placeEntry p ⌝ }
 {
     match p {
@@ -166,7 +166,8 @@ fn row_at(tag: u64, own: u64, job: u64, p: Place) -> Row
     }
 }
 
-fn row_working(o: Own, job: u64, p: Place) -> Row
+// The row of a worker that runs something.
+pub fn row_working(o: Own, job: u64, p: Place) -> Row
     ensures { λ r. ⌜ r ≡ Rattle.codes.specs.Row.rowWorking o job p ⌝ }
 {
     match o {

@@ -7,18 +7,22 @@ use lib.Dec.{eqb}
 use borrow.Author.Tests.{eq-eqb, ne-eqb}
 use Rattle.word.specs.declared.Sort.{Sort}
 use Rattle.word.specs.declared.Status.{Status}
+use Rattle.word.specs.declared.Outcome.{Outcome}
 use Rattle.steps.specs.declared.Place.{Place}
+use Rattle.steps.specs.declared.Place.the-variants.{Install, InstallClear, Persist, PersistClear, Decide, Settle, SettleClear, Swap, SwapBack, SwapClear, StoreFree}
 use Rattle.steps.specs.declared.Own.{Own}
 use Rattle.steps.specs.declared.Worker.{Worker}
 use Rattle.steps.specs.declared.Entry.{Entry}
 use Rattle.steps.specs.declared.Seen.{Seen}
 use Rattle.steps.specs.declared.Effect.{Effect}
+use Rattle.steps.specs.declared.Effect.the-variants.{BackWord}
 use Rattle.steps.specs.declared.Next.{Next}
+use Rattle.steps.specs.declared.Next.the-variants.{Go}
 use Rattle.steps.specs.declared.Plan.{Plan}
 use Rattle.steps.specs.declared.ReadNext.{ReadNext}
 use Rattle.steps.specs.declared.ReadPlan.{ReadPlan}
-use Rattle.steps.specs.Plan.{readPlan, readClearPlan}
-use Rattle.steps.specs.Operation.{planOf}
+use Rattle.steps.specs.Plan.{planned, readPlan, readClearPlan}
+use Rattle.steps.specs.Operation.{planOf, install, installClear, persistClear, decide, settle, settleClear, swap, swapClear, storeFree}
 use Rattle.codes.specs.Place.{placeEntry}
 use Rattle.memory.specs.declared.Copy.{Copy}
 use Rattle.memory.specs.declared.Copy.the-variants.{Cached}
@@ -27,7 +31,7 @@ use Rattle.memory.specs.Content.{wordIn, statusIn, countIn, entryIn, workerIn, 
 use Rattle.events.specs.declared.Answer.{Answer}
 use Rattle.events.specs.Left.{Left, left}
 use Rattle.events.specs.Build.{ownerOf}
-use Rattle.machine.specs.Step.{seenIn, performed, onJob, otherOn, othersOn, isStoreFree, busyAt, startOf, workerAfter, answerOf, planAt, workStep, readAfter, readAnswer, readOut, readStep, readClearStep, stepOf}
+use Rattle.machine.specs.Step.{seenIn, performed, onJob, otherOn, othersOn, busyAt, startOf, workerAfter, answerOf, planAt, arrived, workStep, readAfter, readAnswer, readOut, readStep, readClearStep, stepOf}
 
 pub look-law : (c : Copy) (m : Block) (d i n : ℕ) (e : Entry) (w : Sort) (s : Status) → e ≡ entryIn c m d i → w ≡ wordIn Cached m (e .address)
     → s ≡ statusIn c m d → n ≡ countIn c m d → _≡_ {A = Seen} (record { status = s; count = n; entry = e; word = w }) (seenIn c m d i)
@@ -68,28 +72,74 @@ module _ (m : Block) (w d : ℕ) where
   pub others-none : (n : ℕ) → othersOn m w d n ≡ false → n ≤ 8 → 8 ≤ n → false ≡ othersOn m w d 8
   others-none n e l k = let z : 8 ≡ n = omega arith in rw z (sym e)
 
-  module _ (p : Place) (t r : Bool) (e : t ≡ isStoreFree p) where
-    pub busy-yes : t ≡ true → r ≡ othersOn m w d 8 → r ≡ busyAt m w d p
-    busy-yes f g = rw (← e, f) g
-
 pub start-by : (o q : Own) (r : Worker) → o ≡ q → r ≡ startOf q → r ≡ startOf o
 start-by o q r e h = rw e h
 
-pub after-by : (o : Own) (e : ℕ) (p : Place) (n q : Next) (r : Worker) → n ≡ q → r ≡ workerAfter o e p q → r ≡ workerAfter o e p n
-after-by o e p n q r f h = rw f h
+pub address-law : (m : Block) (d i : ℕ) (e : Entry) → e ≡ entryIn Cached m d i → e .address ≡ seenIn Cached m d i .entry .address
+unfolding seenIn
+address-law m d i e h = rw h
 
-pub answer-by : (n q : Next) (r : Answer) → n ≡ q → r ≡ answerOf q → r ≡ answerOf n
-answer-by n q r f h = rw f h
+-- the plan at each place: what it sees there is all that its rule looks at
+module _ (m : Block) (w : ℕ) (o : Own) (d : ℕ) (p : Place) (r : Plan) where
+  pub plan-plain : (q : Place) → p ≡ q → r ≡ planOf q d (seenIn Cached m d (placeEntry q)) (busyAt m w d q) (ownerOf o d) → r ≡ planAt m w o d p
+  unfolding planAt
+  plan-plain q e h = rw e h
 
-pub plan-at : (m : Block) (w : ℕ) (o : Own) (e i : ℕ) (p : Place) (s : Seen) (b t : Bool) (r : Plan) → i ≡ placeEntry p → s ≡ seenIn Cached m e i
-    → b ≡ busyAt m w e p → t ≡ ownerOf o e → r ≡ planOf p e s b t → r ≡ planAt m w o e p
-unfolding planAt
-plan-at m w o e i p s b t r f g h k l = l ∙ rw (g, f, h, k)
+  module _ (i : ℕ) (s : Seen) (f : s ≡ seenIn Cached m d i) where
+    pub plan-install : p ≡ Install i → r ≡ install i d s → r ≡ planAt m w o d p
+    unfolding planAt
+    plan-install e h = h ∙ rw (e, f)
 
-pub work-law : (m x y : Block) (w : ℕ) (o : Own) (e : ℕ) (p : Place) (q : Plan) (v : Worker) (r : Answer) → q ≡ planAt m w o e p → x ≡ performed m e (q .effect)
-    → v ≡ workerAfter o e p (q .next) → y ≡ putWorker x w v → r ≡ answerOf (q .next) → left y r ≡ workStep m w o e p
+    pub plan-install-clear : (v : ℕ) → p ≡ InstallClear i v → r ≡ installClear i v s → r ≡ planAt m w o d p
+    unfolding planAt
+    plan-install-clear v e h = h ∙ rw (e, f)
+
+    pub plan-persist-clear : p ≡ PersistClear i → r ≡ persistClear i d s → r ≡ planAt m w o d p
+    unfolding planAt
+    plan-persist-clear e h = h ∙ rw (e, f)
+
+    pub plan-swap : p ≡ Swap i → r ≡ swap i d s → r ≡ planAt m w o d p
+    unfolding planAt
+    plan-swap e h = h ∙ rw (e, f)
+
+    pub plan-swap-clear : (t : Bool) → t ≡ ownerOf o d → p ≡ SwapClear i → r ≡ swapClear i s t → r ≡ planAt m w o d p
+    unfolding planAt
+    plan-swap-clear t g e h = h ∙ rw (e, f, g)
+
+  module _ (i a : ℕ) (f : a ≡ seenIn Cached m d i .entry .address) where
+    pub plan-persist : p ≡ Persist i → r ≡ planned (BackWord a) (Go (PersistClear i)) → r ≡ planAt m w o d p
+    unfolding planAt
+    plan-persist e h = h ∙ rw (e, f)
+
+    pub plan-swap-back : p ≡ SwapBack i → r ≡ planned (BackWord a) (Go (SwapClear i)) → r ≡ planAt m w o d p
+    unfolding planAt
+    plan-swap-back e h = h ∙ rw (e, f)
+
+  module _ (t : Status) (f : t ≡ statusIn Cached m d) where
+    pub plan-decide : (q : Outcome) → p ≡ Decide q → r ≡ decide q t → r ≡ planAt m w o d p
+    unfolding planAt seenIn
+    plan-decide q e h = h ∙ rw (e, f)
+
+    pub plan-settle : p ≡ Settle → r ≡ settle t → r ≡ planAt m w o d p
+    unfolding planAt seenIn
+    plan-settle e h = h ∙ rw (e, f)
+
+    pub plan-settle-clear : p ≡ SettleClear → r ≡ settleClear t → r ≡ planAt m w o d p
+    unfolding planAt seenIn
+    plan-settle-clear e h = h ∙ rw (e, f)
+
+    pub plan-store-free : (b : Bool) → b ≡ othersOn m w d 8 → p ≡ StoreFree → r ≡ storeFree b t → r ≡ planAt m w o d p
+    unfolding planAt seenIn
+    plan-store-free b g e h = h ∙ rw (e, f, g)
+
+pub arrive-by : (m x : Block) (w : ℕ) (o : Own) (e : ℕ) (p : Place) (n q : Next) (v : Worker) (r : Answer) → n ≡ q → v ≡ workerAfter o e p q → r ≡ answerOf q
+    → x ≡ putWorker m w v → left x r ≡ arrived m w o e p n
+arrive-by m x w o e p n q v r f g h k = rw (f, k, g, h)
+
+pub work-law : (m x : Block) (w : ℕ) (o : Own) (e : ℕ) (p : Place) (q : Plan) (r : Left) → q ≡ planAt m w o e p → x ≡ performed m e (q .effect)
+    → r ≡ arrived x w o e p (q .next) → r ≡ workStep m w o e p
 unfolding workStep
-work-law m x y w o e p q v r f g h k l = rw (← f, l, k, h, g)
+work-law m x w o e p q r f g h = h ∙ rw (g, f)
 
 pub read-after-by : (a : ℕ) (n q : ReadNext) (r : Worker) → n ≡ q → r ≡ readAfter a q → r ≡ readAfter a n
 read-after-by a n q r f h = rw f h

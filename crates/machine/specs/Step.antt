@@ -111,8 +111,11 @@ answerOf (Answer r) = Answered r
 unfoldable pub planAt : Block → ℕ → Own → ℕ → Place → Plan
 planAt m w o e p = planOf p e (seenIn Cached m e (placeEntry p)) (busyAt m w e p) (ownerOf o e)
 
+abbrev pub arrived : Block → ℕ → Own → ℕ → Place → Next → Left
+arrived m w o e p n = left (putWorker m w (workerAfter o e p n)) (answerOf n)
+
 abbrev pub carriedOut : Block → ℕ → Own → ℕ → Place → Plan → Left
-carriedOut m w o e p q = left (putWorker (performed m e (q .effect)) w (workerAfter o e p (q .next))) (answerOf (q .next))
+carriedOut m w o e p q = arrived (performed m e (q .effect)) w o e p (q .next)
 
 unfoldable pub workStep : Block → ℕ → Own → ℕ → Place → Left
 workStep m w o e p = carriedOut m w o e p (planAt m w o e p)

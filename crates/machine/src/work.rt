@@ -1,5 +1,4 @@
 // Record 07: one step of a worker.
-use codes::place_entry;
 use events::Answer;
 use events::owner_of;
 use memory::Copy;
@@ -10,6 +9,7 @@ use memory::back_word;
 use memory::put_status;
 use memory::put_word;
 use memory::put_worker;
+use memory::put_working;
 use memory::read_count;
 use memory::read_entry;
 use memory::read_status;
@@ -24,10 +24,20 @@ use steps::ReadNext;
 use steps::ReadPlan;
 use steps::Seen;
 use steps::Worker;
-use steps::plan_step;
+use steps::decide;
+use steps::goes;
+use steps::install;
+use steps::install_clear;
+use steps::persist_clear;
+use steps::planned;
 use steps::read_clear_plan;
 use steps::read_plan;
-use word::Outcome;
+use steps::settle;
+use steps::settle_clear;
+use steps::store_free;
+use steps::swap;
+use steps::swap_clear;
+use word::Status;
 ghost use mathlib.Core.Path.{_≡_};
 ghost use lib.Dec.{eqb};
 ghost use Rattle.machine.specs.Step as S;
@@ -103,37 +113,6 @@ fn others_on(m: &Memory, w: u64, d: u64) -> bool
     false
 }
 
-fn is_store_free(p: Place) -> bool
-    ensures { λ r. ⌜ r ≡ S.isStoreFree p ⌝ }
-{
-    match p {
-        Place::BackBody => false,
-        Place::StoreUndecided => false,
-        Place::BackUndecided => false,
-        Place::Install(_) => false,
-        Place::InstallClear(_, _) => false,
-        Place::Persist(_) => false,
-        Place::PersistClear(_) => false,
-        Place::Decide(_) => false,
-        Place::Settle => false,
-        Place::SettleClear => false,
-        Place::Swap(_) => false,
-        Place::SwapBack(_) => false,
-        Place::SwapClear(_) => false,
-        Place::StoreFree => true,
-        Place::BackFree(_) => false,
-    }
-}
-
-fn busy_at(m: &Memory, w: u64, d: u64, p: Place) -> bool
-    ensures { λ r. ⌜ r ≡ S.busyAt (now (m .entry)) w d p ⌝ }
-{
-    if is_store_free(p) {
-        return others_on(m, w, d);
-    }
-    false
-}
-
 fn start_of(o: Own) -> Worker
     ensures { λ r. ⌜ r ≡ S.startOf o ⌝ }
 {
@@ -143,36 +122,66 @@ fn start_of(o: Own) -> Worker
     }
 }
 
-// What a worker becomes that owns o and was at place p of operation e.
-fn worker_after(o: Own, e: u64, p: Place, n: Next) -> Worker
-    ensures { λ r. ⌜ r ≡ S.workerAfter o e p n ⌝ }
+// The address of entry i of d.
+fn address_of(m: &Memory, d: u64, i: u64) -> u64
+    ensures { λ r. ⌜ r ≡ S.seenIn Copy.Cached (now (m .entry)) d i .entry .address ⌝ }
 {
-    match n {
-        Next::Go(q) => Worker::Working(o, e, q),
-        Next::Help(f) => Worker::Working(o, f, Place::Install(0)),
-        Next::Over => start_of(o),
-        Next::Wait => Worker::Working(o, e, p),
-        Next::Answer(_) => Worker::Idle,
+    let e = read_entry(m, Copy::Cached, d, i);
+    e.address
+}
+
+// The plan of a step of d at place p, from what the place needs to see and no more.
+fn plan_at(m: &Memory, w: u64, o: Own, d: u64, p: Place) -> Plan
+    ensures { λ r. ⌜ r ≡ S.planAt (now (m .entry)) w o d p ⌝ }
+{
+    match p {
+        Place::BackBody => goes(Effect::BackBody, Place::StoreUndecided),
+        Place::StoreUndecided => goes(Effect::StoreStatus(Status::Undecided), Place::BackUndecided),
+        Place::BackUndecided => goes(Effect::BackStatus, Place::Install(0)),
+        Place::Install(i) => install(i, d, look(m, Copy::Cached, d, i)),
+        Place::InstallClear(i, v) => install_clear(i, v, look(m, Copy::Cached, d, i)),
+        Place::Persist(i) => goes(
+            Effect::BackWord(address_of(m, d, i)),
+            Place::PersistClear(i),
+        ),
+        Place::PersistClear(i) => persist_clear(i, d, look(m, Copy::Cached, d, i)),
+        Place::Decide(r) => decide(r, read_status(m, Copy::Cached, d)),
+        Place::Settle => settle(read_status(m, Copy::Cached, d)),
+        Place::SettleClear => settle_clear(read_status(m, Copy::Cached, d)),
+        Place::Swap(i) => swap(i, d, look(m, Copy::Cached, d, i)),
+        Place::SwapBack(i) => goes(Effect::BackWord(address_of(m, d, i)), Place::SwapClear(i)),
+        Place::SwapClear(i) => swap_clear(i, look(m, Copy::Cached, d, i), owner_of(o, d)),
+        Place::StoreFree => store_free(others_on(m, w, d), read_status(m, Copy::Cached, d)),
+        Place::BackFree(r) => planned(Effect::BackStatus, Next::Answer(r)),
     }
 }
 
-fn answer_of(n: Next) -> Answer
-    ensures { λ r. ⌜ r ≡ S.answerOf n ⌝ }
+// What the worker becomes that owns o and was at place p of operation e, and its answer.
+fn arrive(m: &mut Memory, w: u64, o: Own, e: u64, p: Place, n: Next) -> Answer
+    ensures { λ r. ⌜ left (now (m .exit)) r ≡ S.arrived (now (m .entry)) w o e p n ⌝ }
 {
     match n {
-        Next::Go(_) => Answer::Moved,
-        Next::Help(e) => Answer::Helping(e),
-        Next::Over => Answer::Moved,
-        Next::Wait => Answer::Waits,
-        Next::Answer(r) => Answer::Answered(r),
+        Next::Go(q) => {
+            put_working(m, w, o, e, q);
+            Answer::Moved
+        }
+        Next::Help(f) => {
+            put_worker(m, w, Worker::Working(o, f, Place::Install(0)));
+            Answer::Helping(f)
+        }
+        Next::Over => {
+            put_worker(m, w, start_of(o));
+            Answer::Moved
+        }
+        Next::Wait => {
+            put_worker(m, w, Worker::Working(o, e, p));
+            Answer::Waits
+        }
+        Next::Answer(r) => {
+            put_worker(m, w, Worker::Idle);
+            Answer::Answered(r)
+        }
     }
-}
-
-fn plan_at(m: &Memory, w: u64, o: Own, e: u64, p: Place) -> Plan
-    ensures { λ r. ⌜ r ≡ S.planAt (now (m .entry)) w o e p ⌝ }
-{
-    let s = look(m, Copy::Cached, e, place_entry(p));
-    plan_step(p, e, s, busy_at(m, w, e, p), owner_of(o, e))
 }
 
 fn work_step(m: &mut Memory, w: u64, o: Own, e: u64, p: Place) -> Answer
@@ -182,8 +191,7 @@ fn work_step(m: &mut Memory, w: u64, o: Own, e: u64, p: Place) -> Answer
     let effect = q.effect;
     let next = q.next;
     perform(m, e, effect);
-    put_worker(m, w, worker_after(o, e, p, next));
-    answer_of(next)
+    arrive(m, w, o, e, p, next)
 }
 
 fn read_after(a: u64, n: ReadNext) -> Worker

@@ -7,7 +7,7 @@ use lib.ListN.{getD, set}
 use borrow.Author.Tests.{lt-ltb, le-ltb}
 use Rattle.memory.specs.declared.Copy.{Copy}
 use Rattle.memory.specs.Block.{Block, at, store, baseOf, slot}
-use Rattle.memory.specs.Block.Field.{word, status, body, worker, size, recovery}
+use Rattle.memory.specs.Block.Field.{word, status, body}
 
 -- a number of the block
 module _ (m : List ℕ) (i : ℕ) where
@@ -57,16 +57,3 @@ module _ (c : Copy) where
     pub body-out : 16 ≤ d → 646 ≡ slot (body c d j)
     unfolding slot
     body-out h = simp (le-ltb _ _ h)
-
-module _ (w j : ℕ) where
-  pub worker-in : w < 8 → j < 8 → 576 + 8 * w + j ≡ slot (worker w j)
-  unfolding slot
-  worker-in h l = simp (lt-ltb _ _ h, lt-ltb _ _ l)
-
-  pub worker-past : w < 8 → 8 ≤ j → 646 ≡ slot (worker w j)
-  unfolding slot
-  worker-past h l = simp (lt-ltb _ _ h, le-ltb _ _ l)
-
-  pub worker-out : 8 ≤ w → 646 ≡ slot (worker w j)
-  unfolding slot
-  worker-out h = simp (le-ltb _ _ h)

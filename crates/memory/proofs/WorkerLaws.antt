@@ -1,23 +1,69 @@
 -- Workers and recovery's place: one law for each answer.
-use mathlib.Core.Path.{_≡_, refl, _∙_}
-use Prim.Native.Nat.{ℕ, suc, _+_, _≤_}
+use mathlib.Core.Path.{_≡_, refl, ap, _∙_}
+use Prim.Native.Nat.{ℕ, suc, _+_, _*_, _<_, _≤_}
 use native.Mathlib.Omega.{arith}
+use borrow.Author.Tests.{lt-ltb, le-ltb}
+use Rattle.steps.specs.declared.Own.{Own}
+use Rattle.steps.specs.declared.Place.{Place}
 use Rattle.steps.specs.declared.Worker.{Worker}
-use Rattle.steps.specs.declared.Worker.the-variants.{Idle}
+use Rattle.steps.specs.declared.Worker.the-variants.{Idle, Working}
 use Rattle.steps.specs.declared.RecoveryPlace.{RecoveryPlace}
 use Rattle.codes.specs.declared.Row.{Row}
 use Rattle.codes.specs.declared.RecoveryRow.{RecoveryRow}
-use Rattle.codes.specs.Row.{rowOf, recoveryOf, recoveryRow}
-use Rattle.memory.specs.Block.{Block, at, store, slot, put}
+use Rattle.codes.specs.Row.{workerOf, rowOf, rowWorking, recoveryOf, recoveryRow}
+use Rattle.memory.specs.Block.{Block, at, store, slot, nowhere}
 use Rattle.memory.specs.Block.Field.{worker}
-use Rattle.memory.specs.Content.{putRow, putWorker, idled, recoveryRowIn, recoveryIn, putRecovery}
+use Rattle.memory.specs.Content.{rowIn, workerIn, rowFrom, rowStored, putRow, putWorker, idled, recoveryRowIn, recoveryIn, putRecovery}
 
-pub worker-put : (m a b c d e f : Block) (w : ℕ) (x : Worker) (r : Row) → r ≡ rowOf x
-    → a ≡ put m (worker w 0) (r .tag) → b ≡ put a (worker w 1) (r .own) → c ≡ put b (worker w 2) (r .job)
-    → d ≡ put c (worker w 3) (r .place) → e ≡ put d (worker w 4) (r .entry) → f ≡ put e (worker w 5) (r .noted)
-    → f ≡ putWorker m w x
-unfolding putRow
-worker-put m a b c d e f w x r q s t u v y z = z ∙ rw (y, v, u, t, s, q)
+-- the six numbers of worker w stand one after the other
+module _ (w : ℕ) where
+  row-slot : w < 8 → (j : ℕ) → j < 8 → slot (worker w j) ≡ 576 + 8 * w + j
+  unfolding slot
+  row-slot h j l = simp (lt-ltb _ _ h, lt-ltb _ _ l)
+
+  row-first : w < 8 → slot (worker w 0) ≡ 576 + 8 * w
+  unfolding slot
+  row-first h = simp (lt-ltb _ _ h) (omega arith)
+
+  no-slot : 8 ≤ w → (j : ℕ) → slot (worker w j) ≡ nowhere
+  unfolding slot
+  no-slot h j = simp (le-ltb _ _ h)
+
+  row-here : w < 8 → (m : Block) → rowFrom m (576 + 8 * w) ≡ rowIn m w
+  row-here h m =
+      rw
+      (row-first h, row-slot h 1 (omega arith), row-slot h 2 (omega arith), row-slot h 3 (omega arith), row-slot h 4 (omega arith), row-slot h 5 (omega arith))
+      refl
+
+  stored-here : w < 8 → (m : Block) (r : Row) → rowStored m (576 + 8 * w) r ≡ putRow m w r
+  unfolding putRow
+  stored-here h m r =
+      rw
+      (row-first h, row-slot h 1 (omega arith), row-slot h 2 (omega arith), row-slot h 3 (omega arith), row-slot h 4 (omega arith), row-slot h 5 (omega arith))
+      refl
+
+  pub worker-read : (m : Block) (r : Row) (x : Worker) → w < 8 → r ≡ rowFrom m (576 + 8 * w) → x ≡ workerOf r → x ≡ workerIn m w
+  worker-read m r x h e f = f ∙ ap workerOf (e ∙ row-here h m)
+
+  pub worker-none : (m : Block) → 8 ≤ w → Idle ≡ workerIn m w
+  unfolding workerOf at
+  worker-none m h = rw (no-slot h 0) refl
+
+  pub worker-put : (m y : Block) (x : Worker) (r : Row) → w < 8 → r ≡ rowOf x → y ≡ rowStored m (576 + 8 * w) r → y ≡ putWorker m w x
+  worker-put m y x r h e f = f ∙ (stored-here h m r ∙ ap (putRow m w) e)
+
+  pub working-put : (m y : Block) (o : Own) (e : ℕ) (p : Place) (r : Row) → w < 8 → r ≡ rowWorking o e p → y ≡ rowStored m (576 + 8 * w) r
+      → y ≡ putWorker m w (Working o e p)
+  working-put m y o e p r h f g = g ∙ (stored-here h m r ∙ ap (putRow m w) f)
+
+  pub worker-kept : (m : Block) (x : Worker) → 8 ≤ w → m ≡ putWorker m w x
+  unfolding putRow store
+  worker-kept m x h = rw (no-slot h 0, no-slot h 1, no-slot h 2, no-slot h 3, no-slot h 4, no-slot h 5) refl
+
+pub row-stored : (m a b c d e f : Block) (i : ℕ) (r : Row)
+    → a ≡ store m i (r .tag) → b ≡ store a (i + 1) (r .own) → c ≡ store b (i + 2) (r .job)
+    → d ≡ store c (i + 3) (r .place) → e ≡ store d (i + 4) (r .entry) → f ≡ store e (i + 5) (r .noted) → f ≡ rowStored m i r
+row-stored m a b c d e f i r s t u v y z = z ∙ rw (y, v, u, t, s) refl
 
 pub idled-next : (m x y : Block) (i : ℕ) → x ≡ idled m i → y ≡ putWorker x i Idle → y ≡ idled m (i + 1)
 unfolding idled

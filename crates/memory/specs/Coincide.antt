@@ -5,7 +5,10 @@ use Prim.Native.Nat.{ℕ}
 use Rattle.word.specs.declared.Sort.{Sort}
 use Rattle.word.specs.declared.Status.{Status}
 use Rattle.word.specs.Coincide.{coincide}
+use Rattle.steps.specs.declared.Own.{Own}
+use Rattle.steps.specs.declared.Place.{Place}
 use Rattle.steps.specs.declared.Worker.{Worker}
+use Rattle.steps.specs.declared.Worker.the-variants.{Working}
 use Rattle.steps.specs.declared.RecoveryPlace.{RecoveryPlace}
 use Rattle.memory.specs.declared.Copy.{Copy}
 use Rattle.steps.specs.declared.Entry.{Entry}
@@ -74,6 +77,9 @@ crash-copy m x y = coincide
 
 pub put-worker : (m : Block) (w : ℕ) (x : Worker) (p q : Block) → p ≡ putWorker m w x → q ≡ putWorker m w x → p ≡ q
 put-worker m w x p q = coincide
+
+pub put-working : (m : Block) (w : ℕ) (o : Own) (job : ℕ) (x : Place) (p q : Block) → p ≡ putWorker m w (Working o job x) → q ≡ putWorker m w (Working o job x) → p ≡ q
+put-working m w o job x p q = coincide
 
 pub idle-workers : (m : Block) (x y : Block) → x ≡ idled m 8 → y ≡ idled m 8 → x ≡ y
 idle-workers m x y = coincide

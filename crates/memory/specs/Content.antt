@@ -106,6 +106,28 @@ putRow m w r =
 abbrev pub putWorker : Block → ℕ → Worker → Block
 putWorker m w x = putRow m w (rowOf x)
 
+-- the same six numbers from a slot on
+abbrev pub rowFrom : Block → ℕ → Row
+rowFrom m i =
+    record {
+      tag = at m i;
+      own = at m (i + 1);
+      job = at m (i + 2);
+      place = at m (i + 3);
+      entry = at m (i + 4);
+      noted = at m (i + 5);
+    }
+
+abbrev pub rowStored : Block → ℕ → Row → Block
+rowStored m i r =
+    store
+    (store
+    (store (store (store (store m i (r .tag)) (i + 1) (r .own)) (i + 2) (r .job)) (i + 3) (r .place))
+    (i + 4)
+    (r .entry))
+    (i + 5)
+    (r .noted)
+
 -- the first n workers become idle
 unfoldable pub idled : Block → ℕ → Block
 idled m zero = m

@@ -4,7 +4,7 @@ use crate::Memory;
 ghost use mathlib.Core.Path.{_≡_};
 ghost use Prim.Native.Nat.{_≤_};
 ghost use Rattle.memory.specs.Block.{at, store, baseOf, slot};
-ghost use Rattle.memory.specs.Block.Field.{word, status, body, worker};
+ghost use Rattle.memory.specs.Block.Field.{word, status, body};
 
 pub fn load(m: &Memory, i: usize) -> u64
     ensures { λ r. ⌜ r ≡ at (now (m .entry)) i ⌝ }
@@ -53,17 +53,6 @@ pub fn body_slot(c: Copy, d: u64, j: u64) -> usize
     if d < 16 {
         if j < 13 {
             return base(c) + 80 + 13 * d as usize + j as usize;
-        }
-    }
-    646
-}
-
-pub fn worker_slot(w: u64, j: u64) -> usize
-    ensures { λ r. ⌜ r ≡ slot (worker w j) ⌝ }
-{
-    if w < 8 {
-        if j < 8 {
-            return 576 + 8 * w as usize + j as usize;
         }
     }
     646

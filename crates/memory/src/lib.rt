@@ -28,6 +28,7 @@ pub use words::read_word;
 pub use workers::idle_workers;
 pub use workers::put_recovery;
 pub use workers::put_worker;
+pub use workers::put_working;
 pub use workers::read_recovery;
 pub use workers::read_worker;
 

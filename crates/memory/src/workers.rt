@@ -2,58 +2,75 @@
 use crate::Memory;
 use crate::block::load;
 use crate::block::save;
-use crate::block::worker_slot;
 use codes::RecoveryRow;
 use codes::Row;
 use codes::recovery_of;
 use codes::recovery_row;
 use codes::row_of;
+use codes::row_working;
 use codes::worker_of;
+use steps::Own;
+use steps::Place;
 use steps::RecoveryPlace;
 use steps::Worker;
 ghost use mathlib.Core.Path.{_≡_};
-ghost use Rattle.memory.specs.Block.{get, put};
-ghost use Rattle.memory.specs.Block.Field.{worker};
-ghost use Rattle.memory.specs.Content.{workerIn, putWorker, idled, recoveryIn, putRecovery};
+ghost use Prim.Native.Nat.{_≤_};
+ghost use Rattle.memory.specs.Content.{workerIn, putWorker, rowFrom, rowStored, idled, recoveryIn, putRecovery};
 
-fn number(m: &Memory, w: u64, j: u64) -> u64
-    ensures { λ r. ⌜ r ≡ get (now (m .entry)) (worker w j) ⌝ }
+// The row whose first number is at slot i. One test of the place serves all six numbers, here and in put_row.
+fn row_from(m: &Memory, i: usize) -> Row
+    requires { ⌜ i ≤ 640 ⌝ }
+    ensures { λ r. ⌜ r ≡ rowFrom (now (m .entry)) i ⌝ }
 {
-    let i = worker_slot(w, j);
-    load(m, i)
+    Row {
+        tag: load(m, i),
+        own: load(m, i + 1),
+        job: load(m, i + 2),
+        place: load(m, i + 3),
+        entry: load(m, i + 4),
+        noted: load(m, i + 5),
+    }
 }
 
-fn put_number(m: &mut Memory, w: u64, j: u64, v: u64)
-    ensures { λ _. ⌜ now (m .exit) ≡ put (now (m .entry)) (worker w j) v ⌝ }
+fn put_row(m: &mut Memory, i: usize, r: Row)
+    requires { ⌜ i ≤ 640 ⌝ }
+    ensures { λ _. ⌜ now (m .exit) ≡ rowStored (now (m .entry)) i r ⌝ }
 {
-    let i = worker_slot(w, j);
-    save(m, i, v);
+    save(m, i, r.tag);
+    save(m, i + 1, r.own);
+    save(m, i + 2, r.job);
+    save(m, i + 3, r.place);
+    save(m, i + 4, r.entry);
+    save(m, i + 5, r.noted);
 }
 
 pub fn read_worker(m: &Memory, w: u64) -> Worker
     ensures { λ r. ⌜ r ≡ workerIn (now (m .entry)) w ⌝ }
 {
-    let r = Row {
-        tag: number(m, w, 0),
-        own: number(m, w, 1),
-        job: number(m, w, 2),
-        place: number(m, w, 3),
-        entry: number(m, w, 4),
-        noted: number(m, w, 5),
-    };
-    worker_of(r)
+    if w < 8 {
+        let r = row_from(m, 576 + 8 * w as usize);
+        return worker_of(r);
+    }
+    Worker::Idle
 }
 
 pub fn put_worker(m: &mut Memory, w: u64, x: Worker)
     ensures { λ _. ⌜ now (m .exit) ≡ putWorker (now (m .entry)) w x ⌝ }
 {
-    let r = row_of(x);
-    put_number(m, w, 0, r.tag);
-    put_number(m, w, 1, r.own);
-    put_number(m, w, 2, r.job);
-    put_number(m, w, 3, r.place);
-    put_number(m, w, 4, r.entry);
-    put_number(m, w, 5, r.noted);
+    if w < 8 {
+        let r = row_of(x);
+        put_row(m, 576 + 8 * w as usize, r);
+    }
+}
+
+// The same for a worker that runs something: a step that goes on, which most do, is stored without a look at what else a worker can be.
+pub fn put_working(m: &mut Memory, w: u64, o: Own, job: u64, p: Place)
+    ensures { λ _. ⌜ now (m .exit) ≡ putWorker (now (m .entry)) w (Worker.Working o job p) ⌝ }
+{
+    if w < 8 {
+        let r = row_working(o, job, p);
+        put_row(m, 576 + 8 * w as usize, r);
+    }
 }
 
 // All workers become idle.

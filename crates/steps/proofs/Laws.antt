@@ -27,7 +27,7 @@ use Rattle.steps.specs.declared.More.the-variants.{Then, Done}
 use Rattle.steps.specs.declared.Plan.{Plan}
 use Rattle.steps.specs.declared.RecoveryPlan.{RecoveryPlan}
 use Rattle.steps.specs.Plan.{planned, pointsTo, isDirtyPointer, isDirtyPlain, isFree, outcomeOf, chosen, leftValue, storeIf, readPlan, readClearPlan}
-use Rattle.steps.specs.Operation.{moreOf, installed, installPlain, installWord, installBy, install, installClear, persisted, persistClear, decide, settle, swap, swapped, swapClear, storeFree, planOf}
+use Rattle.steps.specs.Operation.{moreOf, installed, installPlain, installWord, installBy, install, installClear, persisted, persistClear, decide, settle, swap, swapped, swapClear, storeFree}
 use Rattle.steps.specs.Recovery.{recoveryStep, entryStep, endStep, liveStep, recoveryPlan}
 
 -- what the plans share
@@ -161,13 +161,6 @@ waits busy s r e h = rw e h
 pub frees : (busy : Bool) (s : Status) (r : Plan) (o : Outcome) → busy ≡ false → o ≡ outcomeOf s → r ≡ planned (StoreStatus Free) (Go (BackFree o))
     → r ≡ storeFree busy s
 frees busy s r o e f h = rw (e, ← f) h
-
-pub plan-by : (p q : Place) (d : ℕ) (s : Seen) (busy owner : Bool) (r : Plan) → p ≡ q → r ≡ planOf q d s busy owner → r ≡ planOf p d s busy owner
-plan-by p q d s busy owner r e h = rw e h
-
-pub settle-clears : (p : Place) (d : ℕ) (s : Seen) (busy owner : Bool) (r : Plan) (u : Status) → p ≡ SettleClear → u ≡ statusCleared (s .status)
-    → r ≡ planned (StoreStatus u) (Go (Swap 0)) → r ≡ planOf p d s busy owner
-settle-clears p d s busy owner r u e f h = rw (e, ← f) h
 
 -- recovery
 module _ (done : ℕ) (r : RecoveryPlan) where

@@ -83,6 +83,9 @@ settle Undecided = planned Nothing (Go (Swap 0))
 settle (Decided o dirty) = settleBy dirty
 settle (Bad x) = planned Nothing (Go (Swap 0))
 
+abbrev pub settleClear : Status → Plan
+settleClear s = planned (StoreStatus (statusCleared s)) (Go (Swap 0))
+
 -- 6. For each entry three steps (A2 31-37): a pointer to d, dirty or clean, becomes desired (Succeeded) or expected (Failed), dirty;
 -- write back the word; clear the bit if the word is exactly that value, dirty
 unfoldable pub swap : ℕ → ℕ → Seen → Plan
@@ -122,7 +125,7 @@ planOf (Persist i) d s busy owner = planned (BackWord (s .entry .address)) (Go (
 planOf (PersistClear i) d s busy owner = persistClear i d s
 planOf (Decide o) d s busy owner = decide o (s .status)
 planOf Settle d s busy owner = settle (s .status)
-planOf SettleClear d s busy owner = planned (StoreStatus (statusCleared (s .status))) (Go (Swap 0))
+planOf SettleClear d s busy owner = settleClear (s .status)
 planOf (Swap i) d s busy owner = swap i d s
 planOf (SwapBack i) d s busy owner = planned (BackWord (s .entry .address)) (Go (SwapClear i))
 planOf (SwapClear i) d s busy owner = swapClear i s owner

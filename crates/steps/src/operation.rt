@@ -83,7 +83,7 @@ fn install_plain(i: u64, d: u64, s: Seen, v: u64, dirty: bool) -> Plan
 }
 
 // 2. Install entry i.
-fn install(i: u64, d: u64, s: Seen) -> Plan
+pub fn install(i: u64, d: u64, s: Seen) -> Plan
     ensures { λ r. ⌜ r ≡ O.install i d s ⌝ }
 {
     let t = s.status;
@@ -97,7 +97,7 @@ fn install(i: u64, d: u64, s: Seen) -> Plan
 }
 
 // 2, the clearing step: v was written back.
-fn install_clear(i: u64, v: u64, s: Seen) -> Plan
+pub fn install_clear(i: u64, v: u64, s: Seen) -> Plan
     ensures { λ r. ⌜ r ≡ O.installClear i v s ⌝ }
 {
     let e = s.entry;
@@ -126,7 +126,7 @@ fn persisted(k: More) -> Next
 }
 
 // 3, the clearing step.
-fn persist_clear(i: u64, d: u64, s: Seen) -> Plan
+pub fn persist_clear(i: u64, d: u64, s: Seen) -> Plan
     ensures { λ r. ⌜ r ≡ O.persistClear i d s ⌝ }
 {
     let e = s.entry;
@@ -139,7 +139,7 @@ fn persist_clear(i: u64, d: u64, s: Seen) -> Plan
 }
 
 // 4. Decide.
-fn decide(o: Outcome, t: Status) -> Plan
+pub fn decide(o: Outcome, t: Status) -> Plan
     ensures { λ r. ⌜ r ≡ O.decide o t ⌝ }
 {
     match t {
@@ -154,7 +154,7 @@ fn decide(o: Outcome, t: Status) -> Plan
 }
 
 // 5. Write the dirty status back.
-fn settle(t: Status) -> Plan
+pub fn settle(t: Status) -> Plan
     ensures { λ r. ⌜ r ≡ O.settle t ⌝ }
 {
     match t {
@@ -170,8 +170,15 @@ fn settle(t: Status) -> Plan
     }
 }
 
+// 5, the clearing step.
+pub fn settle_clear(t: Status) -> Plan
+    ensures { λ r. ⌜ r ≡ O.settleClear t ⌝ }
+{
+    goes(Effect::StoreStatus(status_cleared(t)), Place::Swap(0))
+}
+
 // 6. Swap entry i.
-fn swap(i: u64, d: u64, s: Seen) -> Plan
+pub fn swap(i: u64, d: u64, s: Seen) -> Plan
     ensures { λ r. ⌜ r ≡ O.swap i d s ⌝ }
 {
     let e = s.entry;
@@ -205,7 +212,7 @@ fn swapped(owner: bool, k: More) -> Next
 }
 
 // 6, the clearing step.
-fn swap_clear(i: u64, s: Seen, owner: bool) -> Plan
+pub fn swap_clear(i: u64, s: Seen, owner: bool) -> Plan
     ensures { λ r. ⌜ r ≡ O.swapClear i s owner ⌝ }
 {
     let e = s.entry;
@@ -220,7 +227,7 @@ fn swap_clear(i: u64, s: Seen, owner: bool) -> Plan
 }
 
 // 7. Store Free, or wait while another worker is on d.
-fn store_free(busy: bool, t: Status) -> Plan
+pub fn store_free(busy: bool, t: Status) -> Plan
     ensures { λ r. ⌜ r ≡ O.storeFree busy t ⌝ }
 {
     if busy {
@@ -230,29 +237,4 @@ fn store_free(busy: bool, t: Status) -> Plan
         Effect::StoreStatus(Status::Free),
         Place::BackFree(outcome_of(t)),
     )
-}
-
-// One step of operation d at place p. `busy`: another worker's current job is d; `owner`: the worker owns d.
-pub fn plan_step(p: Place, d: u64, s: Seen, busy: bool, owner: bool) -> Plan
-    ensures { λ r. ⌜ r ≡ O.planOf p d s busy owner ⌝ }
-{
-    let t = s.status;
-    let e = s.entry;
-    match p {
-        Place::BackBody => goes(Effect::BackBody, Place::StoreUndecided),
-        Place::StoreUndecided => goes(Effect::StoreStatus(Status::Undecided), Place::BackUndecided),
-        Place::BackUndecided => goes(Effect::BackStatus, Place::Install(0)),
-        Place::Install(i) => install(i, d, s),
-        Place::InstallClear(i, v) => install_clear(i, v, s),
-        Place::Persist(i) => goes(Effect::BackWord(e.address), Place::PersistClear(i)),
-        Place::PersistClear(i) => persist_clear(i, d, s),
-        Place::Decide(o) => decide(o, t),
-        Place::Settle => settle(t),
-        Place::SettleClear => goes(Effect::StoreStatus(status_cleared(t)), Place::Swap(0)),
-        Place::Swap(i) => swap(i, d, s),
-        Place::SwapBack(i) => goes(Effect::BackWord(e.address), Place::SwapClear(i)),
-        Place::SwapClear(i) => swap_clear(i, s, owner),
-        Place::StoreFree => store_free(busy, t),
-        Place::BackFree(o) => planned(Effect::BackStatus, Next::Answer(o)),
-    }
 }

@@ -1,40 +1,27 @@
+use Rattle.memory.proofs.WorkerLaws.{worker-read, worker-none}
 use borrow.Author.Needs.{needs}
 use Rattle.memory.proofs.workers.read_worker.Statement.{statement}
 use Rattle.memory.proofs.workers.read_worker.Tie as tie
 
-number-requires : tie.Need-number-requires
-number-requires c κs = search needs
+mul-row-from : tie.Need-mul-row-from
+mul-row-from c = search needs
 
-number-requires-2 : tie.Need-number-requires-2
-number-requires-2 c κs = search needs
+add-row-from : tie.Need-add-row-from
+add-row-from c = search needs
 
-number-requires-3 : tie.Need-number-requires-3
-number-requires-3 c κs = search needs
-
-number-requires-4 : tie.Need-number-requires-4
-number-requires-4 c κs = search needs
-
-number-requires-5 : tie.Need-number-requires-5
-number-requires-5 c κs = search needs
-
-number-requires-6 : tie.Need-number-requires-6
-number-requires-6 c κs = search needs
+row-from-requires : tie.Need-row-from-requires
+row-from-requires c κs = search needs
 
 worker-of-requires : tie.Need-worker-of-requires
 worker-of-requires c κs = search needs
 
 returns : tie.Need-returns
-returns c = cc
+returns c = search (needs, worker-read)
+
+returns-2 : tie.Need-returns-2
+returns-2 c = search (needs, worker-none)
 
 pub read-worker-spec : {M : Type 1} → statement M
 read-worker-spec =
     tie.close
-    (tie.spec
-    number-requires
-    number-requires-2
-    number-requires-3
-    number-requires-4
-    number-requires-5
-    number-requires-6
-    worker-of-requires
-    returns)
+    (tie.spec mul-row-from add-row-from row-from-requires worker-of-requires returns returns-2)
