@@ -1,0 +1,4 @@
+pub mod Number
+pub mod Bytes
+pub mod Laws
+pub mod Coincide
