@@ -1,31 +1,56 @@
 #!/bin/sh
-# Our machine beside the independent model: the runs with known answers, and random schedules.
+# Our programs beside the independent model: the vectors, random schedules, and the ledger followed through what our trace shows.
+tick=${OURS_TICK:-target/bin/tick}
+trace=${OURS_TRACE:-target/bin/trace}
+status=0
+for program in "$tick" "$trace"; do
+    [ -x "$program" ] || {
+        echo "model: there is no program $program"
+        exit 1
+    }
+done
+
+# vectors PROGRAM
+vectors() {
+    if sh tests/vectors/run.sh "$1" >build/vectors.log 2>&1; then
+        echo "vectors, $1: $(grep -c ': same$' build/vectors.log) the same"
+    else
+        grep -v ': same$' build/vectors.log | head -n 20
+        echo "vectors, $1: not all the same; see build/vectors.log"
+        status=1
+    fi
+}
+
+mkdir -p build
+python=yes
+command -v python3 >/dev/null 2>&1 || {
+    echo "vectors: skipped, they need python3"
+    python=no
+}
 command -v gcc >/dev/null 2>&1 || {
+    [ $python = no ] || vectors "$tick"
     echo "model: skipped, it needs gcc"
-    exit 0
+    exit $status
 }
 sh tests/model/build.sh || exit 1
-if command -v python3 >/dev/null 2>&1; then
-    for program in build/model/model tests/model/answers.sh; do
-        sh tests/model/known.sh "$program" >build/known.log || {
-            grep -v ': same' build/known.log
-            exit 1
-        }
-        echo "known runs, $program: $(grep -c ': same' build/known.log) the same"
-    done
-else
-    echo "known runs: skipped, they need python3"
-fi
-sh tests/model/compare.sh 1 "${SEEDS:-2000}"
-status=$?
+[ $python = no ] || vectors build/model/tick
+[ $python = no ] || vectors "$tick"
+sh tests/model/compare.sh 1 "${SEEDS:-3000}" || status=1
 
-# What our machine shows keeps the ledger: it changes only when a Succeeded reaches persisted memory, and every value is the ledger's.
+# What our trace shows keeps the ledger: it changes only when a Succeeded reaches persisted memory, and every value is the ledger's.
+rm -rf build/ledger
+mkdir -p build/ledger
+build/model/gen 1 300 build/ledger || exit 1
 seed=1
 while [ "$seed" -le 300 ]; do
-    build/model/gen "$seed" | target/bin/states
+    echo "#$seed"
+    "$trace" <build/ledger/$seed
     seed=$((seed + 1))
-done | build/model/ledger >build/ledger.log || status=1
-head -n 2 build/ledger.log
+done | build/model/ledger >build/ledger.log || {
+    grep VIOLATION build/ledger.log | head -n 5
+    status=1
+}
+grep -E '^[0-9]+ schedules |^violations' build/ledger.log | sed 's/^/ledger: /'
 # the ledger's check holds of no input at all: it must have seen every schedule
 grep -q '^300 schedules ' build/ledger.log || status=1
 exit $status

@@ -1,6 +1,6 @@
 // Records 0B and 0C: the crash, and one step of recovery.
 use crate::work::look;
-use crate::work::perform;
+use crate::work::perform_apart;
 use events::Answer;
 use memory::Copy;
 use memory::Memory;
@@ -62,7 +62,7 @@ fn recovery_step(m: &mut Memory, k: u64, d: u64, s: u64) -> Answer
     let q = recovery_plan(d, s, seen);
     let effect = q.effect;
     let next = q.next;
-    perform(m, d, effect);
+    perform_apart(m, d, effect);
     let p = place_after(k, d, next);
     put_recovery(m, p);
     recovery_answer(p)

@@ -9,8 +9,8 @@ look-requires c κs = search needs
 recovery-plan-requires : tie.Need-recovery-plan-requires
 recovery-plan-requires c κs = search needs
 
-perform-requires : tie.Need-perform-requires
-perform-requires c κs = search needs
+perform-apart-requires : tie.Need-perform-apart-requires
+perform-apart-requires c κs = search needs
 
 place-after-requires : tie.Need-place-after-requires
 place-after-requires c κs = search needs
@@ -30,7 +30,7 @@ recovery-step-spec =
     (tie.spec
     look-requires
     recovery-plan-requires
-    perform-requires
+    perform-apart-requires
     place-after-requires
     put-recovery-requires
     recovery-answer-requires

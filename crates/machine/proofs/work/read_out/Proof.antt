@@ -3,8 +3,8 @@ use borrow.Author.Needs.{needs}
 use Rattle.machine.proofs.work.read_out.Statement.{statement}
 use Rattle.machine.proofs.work.read_out.Tie as tie
 
-perform-requires : tie.Need-perform-requires
-perform-requires c κs = search needs
+perform-apart-requires : tie.Need-perform-apart-requires
+perform-apart-requires c κs = search needs
 
 read-after-requires : tie.Need-read-after-requires
 read-after-requires c κs = search needs
@@ -22,7 +22,7 @@ pub read-out-spec : {M : Type 1} → statement M
 read-out-spec =
     tie.close
     (tie.spec
-    perform-requires
+    perform-apart-requires
     read-after-requires
     put-worker-requires
     read-answer-requires
