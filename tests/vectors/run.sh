@@ -1,13 +1,17 @@
 #!/bin/sh
-# run.sh PROGRAM: `tick` on the schedules NAME.sched beside this file, its whole output against NAME.out; then on run (a) cut at every
-# byte. A line for each: same, or the first line that differs. Exit 1 on any. The outputs come from document 01, not from a program.
+# run.sh PROGRAM: `tick` on each schedule that the program `vectors` is run on (tests/vectors/data.sh makes them), its whole output
+# against the expected one. A line for each: same, or the first line that differs. Exit 1 on any.
 program=${1:?the program to run}
-here=$(dirname "$0")
+data=crates/vectors/data
 work=build/vectors
 mkdir -p $work
 bad=0
 [ -x "$program" ] || {
     echo "vectors: there is no program $program"
+    exit 1
+}
+[ -s "$data/names" ] || {
+    echo "vectors: there is no list $data/names"
     exit 1
 }
 
@@ -37,47 +41,9 @@ compare() {
         }' $work/got
 }
 
-python3 -B - "$here" $work <<'PYTHON' || exit 1
-import pathlib, sys
-sys.path.insert(0, 'tools')
-import schedule
-for path in pathlib.Path(sys.argv[1]).glob('*.sched'):
-    try:
-        with path.open('rb') as source, open(f'{sys.argv[2]}/{path.stem}', 'wb') as sink:
-            schedule.to_bytes(source, sink)
-    except schedule.Wrong as wrong:
-        sys.exit(f'{path}: {wrong}')
-PYTHON
-for sched in "$here"/*.sched; do
-    name=$(basename "$sched" .sched)
-    compare "$name" "$work/$name" "$here/$name.out"
-done
-
-# Run (a) cut to its first bytes: the lines of the whole records, R 2 for the cut one, and the value: 5 once record 11, which writes
-# back Succeeded, is whole.
-cut=0
-whole=0
-next=4          # where the next record ends
-while [ $cut -lt 48 ]; do
-    if [ $cut = $next ]; then
-        whole=$((whole + 1))
-        case $whole in
-        2) length=19 ;;
-        12 | 13 | 14 | 15 | 16) length=1 ;;
-        *) length=2 ;;
-        esac
-        begin=$next
-        next=$((next + length))
-    fi
-    head -c $cut "$work/run-a" >$work/cut
-    {
-        head -n $whole "$here/run-a.out"
-        [ $cut = "${begin-}" ] || echo "$whole R 2"
-        [ $whole = 0 ] || echo "= $([ $whole -ge 12 ] && echo 5 || echo 0)"
-    } >$work/wanted
-    compare "run (a) cut to $cut bytes" $work/cut $work/wanted
-    cut=$((cut + 1))
-done
+while read -r name; do
+    compare "$name" "$data/$name.bytes" "$data/$name.out"
+done <"$data/names"
 
 # Every unknown kind after a setup, and every kind but 00 first, with a body that would be long enough for any record.
 body='\001\001\001\001\001\001\001\001\001\001\001\001\001\001\001\001\001\001'
