@@ -10,31 +10,20 @@ for program in "$tick" "$trace"; do
     }
 done
 
-# vectors PROGRAM
-vectors() {
-    if sh tests/vectors/run.sh "$1" >build/vectors.log 2>&1; then
-        echo "vectors, $1: $(grep -c ': same$' build/vectors.log) the same"
-    else
-        grep -v ': same$' build/vectors.log | head -n 20
-        echo "vectors, $1: not all the same; see build/vectors.log"
-        status=1
-    fi
-}
-
 mkdir -p build
-python=yes
-command -v python3 >/dev/null 2>&1 || {
-    echo "vectors: skipped, they need python3"
-    python=no
-}
 command -v gcc >/dev/null 2>&1 || {
-    [ $python = no ] || vectors "$tick"
     echo "model: skipped, it needs gcc"
-    exit $status
+    exit 0
 }
 sh tests/model/build.sh || exit 1
-[ $python = no ] || vectors build/model/tick
-[ $python = no ] || vectors "$tick"
+# the model on the vectors (tests/checks/60-vectors.sh has ours)
+if sh tests/vectors/run.sh build/model/tick >build/vectors-model.log 2>&1; then
+    echo "vectors, model: $(grep -c ': same$' build/vectors-model.log) the same"
+else
+    grep -v ': same$' build/vectors-model.log | head -n 20
+    echo "vectors, model: not all the same; see build/vectors-model.log"
+    status=1
+fi
 sh tests/model/compare.sh 1 "${SEEDS:-3000}" || status=1
 
 # What our trace shows keeps the ledger: it changes only when a Succeeded reaches persisted memory, and every value is the ledger's.
