@@ -1,25 +1,24 @@
-use mathlib.Core.Path.{_≡_, refl}
-use Prim.Native.Nat.{_≤_, _<_, _+_, _-_}
-use native.Mathlib.Omega.{arith}
+use Prim.Native.Nat.{_-_}
+use mathlib.Core.Path.{_≡_}
 use lib.ListN.{length}
 use borrow.Author.Needs.{needs}
-use Rattle.states.proofs.out.put_text.Statement.{statement}
-use Rattle.states.proofs.out.put_text.Tie as tie
+use Rattle.trace.proofs.bodies.put_entries.Statement.{statement}
+use Rattle.trace.proofs.bodies.put_entries.Tie as tie
 
 abbrev Inv-loop : tie.InvT-loop
-Inv-loop page₀ at text to₀ i₀ page to i = (i ≤ length text) × (length page ≡ length page₀)
+Inv-loop out₀ at m c d n to₀ i₀ out to i = length out ≡ length out₀
 
 abbrev μ-loop : tie.MeasureT-loop
-μ-loop page₀ at text to₀ i₀ page to i = length text - i
+μ-loop out₀ at m c d n to₀ i₀ out to i = n - i
 
 loop-holds : tie.Need-loop-holds Inv-loop μ-loop
 loop-holds c = search needs
 
-shared-slice-read-put : tie.Need-shared-slice-read-put Inv-loop μ-loop
-shared-slice-read-put c = search needs
+read-entry-requires : tie.Need-read-entry-requires Inv-loop μ-loop
+read-entry-requires c κs = search needs
 
-put-requires : tie.Need-put-requires Inv-loop μ-loop
-put-requires c κs = search needs
+put-triple-requires : tie.Need-put-triple-requires Inv-loop μ-loop
+put-triple-requires c κs = search needs
 
 add-i : tie.Need-add-i Inv-loop μ-loop
 add-i c = search needs
@@ -36,15 +35,15 @@ same-length c = search needs
 returns : tie.Need-returns Inv-loop μ-loop
 returns c = search needs
 
-pub put-text-spec : {M : Type 1} → statement M
-put-text-spec =
+pub put-entries-spec : {M : Type 1} → statement M
+put-entries-spec =
     tie.close
     (tie.spec
     Inv-loop
     μ-loop
     loop-holds
-    shared-slice-read-put
-    put-requires
+    read-entry-requires
+    put-triple-requires
     add-i
     loop-less
     loop-again

@@ -1,25 +1,24 @@
-use mathlib.Core.Path.{_≡_, refl}
-use Prim.Native.Nat.{_≤_, _<_, _+_, _-_}
-use native.Mathlib.Omega.{arith}
+use Prim.Native.Nat.{_-_, _≤_}
+use mathlib.Core.Path.{_≡_}
 use lib.ListN.{length}
 use borrow.Author.Needs.{needs}
-use Rattle.states.proofs.lines.state_lines.Statement.{statement}
-use Rattle.states.proofs.lines.state_lines.Tie as tie
+use Rattle.trace.proofs.parts.put_signs.Statement.{statement}
+use Rattle.trace.proofs.parts.put_signs.Tie as tie
 
 abbrev Inv-loop : tie.InvT-loop
-Inv-loop page₀ at old m all s to₀ i₀ page to i = length page ≡ length page₀
+Inv-loop out₀ at text n to₀ i₀ out to i = (i ≤ length text) × (length out ≡ length out₀)
 
 abbrev μ-loop : tie.MeasureT-loop
-μ-loop page₀ at old m all s to₀ i₀ page to i = 585 - i
-
-read-sizes-requires : tie.Need-read-sizes-requires Inv-loop μ-loop
-read-sizes-requires c κs = search needs
+μ-loop out₀ at text n to₀ i₀ out to i = length text - i
 
 loop-holds : tie.Need-loop-holds Inv-loop μ-loop
 loop-holds c = search needs
 
-line-requires : tie.Need-line-requires Inv-loop μ-loop
-line-requires c κs = search needs
+shared-slice-read-put-sign : tie.Need-shared-slice-read-put-sign Inv-loop μ-loop
+shared-slice-read-put-sign c = search needs
+
+put-sign-requires : tie.Need-put-sign-requires Inv-loop μ-loop
+put-sign-requires c κs = search needs
 
 add-i : tie.Need-add-i Inv-loop μ-loop
 add-i c = search needs
@@ -36,15 +35,15 @@ same-length c = search needs
 returns : tie.Need-returns Inv-loop μ-loop
 returns c = search needs
 
-pub state-lines-spec : {M : Type 1} → statement M
-state-lines-spec =
+pub put-signs-spec : {M : Type 1} → statement M
+put-signs-spec =
     tie.close
     (tie.spec
     Inv-loop
     μ-loop
-    read-sizes-requires
     loop-holds
-    line-requires
+    shared-slice-read-put-sign
+    put-sign-requires
     add-i
     loop-less
     loop-again
