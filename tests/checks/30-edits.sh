@@ -10,5 +10,11 @@ for log in target/must-fail/*/*/.log; do
         bad=1
     fi
 done
-[ $bad = 0 ] && echo "edits: no refusal is only a proof file that no longer fits"
+edits=$(find crates/*/must-fail -name '*.edit' | wc -l)
+logs=$(find target/must-fail -name .log | wc -l)
+[ "$edits" -gt 0 ] && [ "$edits" = "$logs" ] || {
+    echo "edits: $edits edits, but $logs logs of their refusal"
+    bad=1
+}
+[ $bad = 0 ] && echo "edits: $edits, no refusal is only a proof file that no longer fits"
 exit $bad

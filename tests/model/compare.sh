@@ -66,6 +66,10 @@ while [ "$first" -le "$to" ]; do
     rm -rf $work/s
     mkdir $work/s
     build/model/gen "$first" "$last" $work/s || exit 1
+    [ "$(find $work/s -type f | wc -l)" = $((last - first + 1)) ] || {
+        echo "model: the generator did not write a schedule for each of the seeds $first to $last"
+        exit 1
+    }
     for pair in "tick $tick" "trace $trace"; do
         play "build/model/${pair%% *}" "$first" "$last" >$work/all.wanted
         play "${pair#* }" "$first" "$last" >$work/all.got

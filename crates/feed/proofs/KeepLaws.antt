@@ -1,11 +1,16 @@
 -- `keep`: one law for each answer.
 use mathlib.Core.Path.{_≡_, refl, sym, ap, _∙_}
-use mathlib.Core.List.{List}
+use mathlib.Core.List.{List, _++_}
 use Prim.Native.Nat.{ℕ, suc, _+_, _-_, _<_, _≤_}
 use native.Mathlib.Omega.{arith}
-use lib.ListN.{length, getD, set, length-set}
+use lib.ListN.{length, getD, take, set}
+use lib.Seq.{take-at, length-take-le}
 use borrow.Author.Tests.{lt-ltb, le-ltb, lt-leb, le-leb}
 use Rattle.feed.specs.Feed.{kept, moved, keptOf}
+
+-- what stands before a part that was lent
+pub front-kept : (s q : List ℕ) (have : ℕ) → have < length s → take have (take have s ++ q) ≡ take have s
+front-kept s q have h = take-at (take have s) q have (length-take-le have s (omega arith))
 
 pub keep-outside : (s : List ℕ) (from to : ℕ) → length s < to → kept s 0 ≡ keptOf s from to
 unfolding keptOf

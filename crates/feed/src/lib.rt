@@ -1,13 +1,14 @@
 // The input of a program in pieces: what has been read and not used yet is kept at the start of a buffer.
 ghost use mathlib.Core.Path.{_≡_};
 ghost use Prim.Native.Nat.{_+_, _≤_};
-ghost use lib.ListN.{length};
+ghost use lib.ListN.{length, take};
 ghost use Rattle.feed.specs.Feed.{Kept, kept, keptOf};
 
 // One call of read on standard input, behind the bytes that are kept; how many bytes there are then. As many as before: the input
 // has ended, or the read failed, or the buffer is full.
 pub fn read_on(buf: &mut [u8], have: usize) -> usize
-    ensures { λ r. ⌜ r ≤ length (now (buf .exit)) ⌝ }
+    ensures { λ r. ⌜ (length (now (buf .exit)) ≡ length (now (buf .entry))) × ((r ≤ length (now (buf .exit))) × (take have (now (buf .exit)) ≡ take have (now (buf .entry)))) ⌝ }
+    ensures { λ r. ⌜ (have ≤ length (now (buf .entry)) → have ≤ r) ⌝ }
 {
     if buf.len() <= have {
         return buf.len();

@@ -1,4 +1,4 @@
--- What `play` and `finish` leave of what they are lent, and answer.
+-- What `play` leaves of what it is lent, and answers.
 use Prim.Native.Nat.{ℕ, _+_, _/_}
 use mathlib.Core.List.{List}
 use mathlib.Core.Bool.{Bool}

@@ -1,6 +1,7 @@
 pub mod Tick
 pub mod Done
-pub mod Split
 pub mod Session
+pub mod Split
+pub mod Pieces
 pub mod Room
 pub mod Coincide

@@ -85,3 +85,8 @@ closing-length (At i) m [] = let a = last-length m in omega arith
 closing-length (At i) m (b ∷ rest) = let a = last-length m in let c = line-length i (Refused 2) in simp length-append (omega arith)
 closing-length (Over true) m rest = let a = last-length m in omega arith
 closing-length (Over false) m rest = omega arith
+
+-- all of it is put where the output has room
+pub closing-text : (s : Stage) (m : Block) (rest out : List ℕ) → 1391 ≤ length out
+    → take (putOf out 0 (closing s m rest) .end) (putOf out 0 (closing s m rest) .bytes) ≡ closing s m rest
+closing-text s m rest out h = let a = closing-length s m rest in put-before (closing s m rest) out 0 (omega arith)

@@ -108,7 +108,7 @@ abbrev pub lastIf : Bool → Block → List ℕ
 lastIf true m = lastLine m
 lastIf false m = []
 
--- at the end of the input, with these bytes left: 2 where it is empty or ends inside a record; the last line if there was a good setup
+-- at the end of the input, with these bytes left of which nothing can be played: 2 where it is empty or ends inside a record; the last line if there was a good setup
 abbrev pub closing : Stage → Block → List ℕ → List ℕ
 closing First m rest = lineOf 0 (Refused 2)
 closing (At i) m [] = lastLine m

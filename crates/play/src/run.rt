@@ -128,7 +128,7 @@ fn finish_over(m: &Memory, good: bool, out: &mut [u8]) -> usize
     0
 }
 
-// The end of the input, with these bytes left.
+// The end of the input, with these bytes left, of which `play` can play nothing.
 pub fn finish(m: &Memory, stage: Stage, rest: &[u8], out: &mut [u8]) -> usize
     ensures { λ r. ⌜ filled (now (out .exit)) r ≡ putOf (now (out .entry)) 0 (T.closing stage (now (m .entry)) (now (rest .entry))) ⌝ }
 {

@@ -41,3 +41,7 @@ event-kind kind body h l =
     (λ j. by-kind kind 0x0A _ _ refl
     (λ k. by-kind kind 0x0B _ _ refl
     (λ m. last kind (up 11 kind (up 10 kind (up 9 kind (up 8 kind (up 7 kind (up 6 kind (up 5 kind (up 4 kind (up 3 kind (up 2 kind (up 1 kind h a) b) c) d) e) f) g) i) j) k) m) l)))))))))))
+
+-- so of what the reader hands over
+pub event-says : (kind : ℕ) (body : List ℕ) (r : Event) → r ≡ eventOf kind body → 0x01 ≤ kind → kind ≤ 0x0C → kindOf r ≡ kind
+event-says kind body r e h l = rw e (event-kind kind body h l)

@@ -3,6 +3,8 @@ use events::Event;
 use little::read_u64;
 use memory::Sizes;
 ghost use mathlib.Core.Path.{_≡_};
+ghost use Prim.Native.Nat.{_≤_};
+ghost use Rattle.events.specs.Event.{kindOf};
 ghost use Rattle.events.specs.Refusal.{firstOf};
 ghost use Rattle.schedule.specs.Record.{known, lengthOf, verdictOf, headOf, refusalOf, headChecks, bodyOf};
 ghost use Rattle.schedule.specs.Content.{byte, eventOf, setupOf};
@@ -105,8 +107,8 @@ fn byte_at(body: &[u8], i: usize) -> u64
     0
 }
 
-// The event of a record of kind 01 to 0C. Any other kind is taken for 0C, so that the last case needs no test.
-pub fn event_of(kind: u8, body: &[u8]) -> Event
+// Any kind that is none of 01 to 0B is taken for 0C, so that the last case needs no test.
+fn event_in(kind: u8, body: &[u8]) -> Event
     ensures { λ r. ⌜ r ≡ eventOf kind (now (body .entry)) ⌝ }
 {
     let a = byte_at(body, 0);
@@ -125,6 +127,14 @@ pub fn event_of(kind: u8, body: &[u8]) -> Event
         0x0B => Event::Crash,
         _ => Event::Recover,
     }
+}
+
+// The event of a record of kind 01 to 0C: an event of that kind.
+pub fn event_of(kind: u8, body: &[u8]) -> Event
+    ensures { λ r. ⌜ r ≡ eventOf kind (now (body .entry)) ⌝ }
+    ensures { λ r. ⌜ (0x01 ≤ kind → kind ≤ 0x0C → kindOf r ≡ kind) ⌝ }
+{
+    event_in(kind, body)
 }
 
 // n, k, w of a record of kind 00.
