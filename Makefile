@@ -2,8 +2,9 @@
 # make test: the whole gate; its last line is 'N passed, 0 failed'
 MAKEFLAGS += --no-print-directory
 # make soak FROM=1 TO=100000: as many random schedules as told, beside the model (after make test)
-# make bench: nanoseconds an event
-.PHONY: demo test fmt soak bench
+# make bench: nanoseconds an event, and tick beside the model
+# make install PREFIX=/usr/local: the recovery for C and Fortran
+.PHONY: demo test fmt soak bench install
 
 demo:
 	@sh tests/demo.sh
@@ -19,3 +20,6 @@ bench:
 
 fmt:
 	@rt fmt
+
+install:
+	@DESTDIR='$(DESTDIR)' sh tools/install.sh '$(or $(PREFIX),/usr/local)'

@@ -4,3 +4,4 @@ mod recovery;
 mod work;
 
 pub use dispatch::apply;
+pub use recovery::place_after;

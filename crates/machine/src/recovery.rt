@@ -36,8 +36,8 @@ fn visit_after(d: u64, k: u64) -> RecoveryPlace
     RecoveryPlace::Outside
 }
 
-// Where recovery stands after a step at d.
-fn place_after(k: u64, d: u64, n: More) -> RecoveryPlace
+// Where recovery stands after a step at d, of k descriptors.
+pub fn place_after(k: u64, d: u64, n: More) -> RecoveryPlace
     ensures { λ r. ⌜ r ≡ R.placeAfter k d n ⌝ }
 {
     match n {

@@ -1,0 +1,61 @@
+use Rattle.image.proofs.ImageLaws.{refuse-length, refuse-status, refuse-body, refuse-word, refuse-pointer, refuse-none}
+use borrow.Author.Needs.{needs}
+use Rattle.image.proofs.check.content_refusal.Statement.{statement}
+use Rattle.image.proofs.check.content_refusal.Tie as tie
+
+mul-if1 : tie.Need-mul-if1
+mul-if1 c = search needs
+
+mul-if1-2 : tie.Need-mul-if1-2
+mul-if1-2 c = search needs
+
+add-if1 : tie.Need-add-if1
+add-if1 c = search needs
+
+returns : tie.Need-returns
+returns c = search (needs, refuse-length)
+
+statuses-bad-requires : tie.Need-statuses-bad-requires
+statuses-bad-requires c κs = search needs
+
+returns-2 : tie.Need-returns-2
+returns-2 c = search (needs, refuse-status)
+
+bodies-bad-requires : tie.Need-bodies-bad-requires
+bodies-bad-requires c κs = search needs
+
+returns-3 : tie.Need-returns-3
+returns-3 c = search (needs, refuse-body)
+
+words-bad-requires : tie.Need-words-bad-requires
+words-bad-requires c κs = search needs
+
+returns-4 : tie.Need-returns-4
+returns-4 c = search (needs, refuse-word)
+
+pointers-bad-requires : tie.Need-pointers-bad-requires
+pointers-bad-requires c κs = (search needs, cc)
+
+returns-5 : tie.Need-returns-5
+returns-5 c = search (needs, refuse-pointer)
+
+returns-6 : tie.Need-returns-6
+returns-6 c = search (needs, refuse-none)
+
+pub content-refusal-spec : {M : Type 1} → statement M
+content-refusal-spec =
+    tie.close
+    (tie.spec
+    mul-if1
+    mul-if1-2
+    add-if1
+    returns
+    statuses-bad-requires
+    returns-2
+    bodies-bad-requires
+    returns-3
+    words-bad-requires
+    returns-4
+    pointers-bad-requires
+    returns-5
+    returns-6)

@@ -1,0 +1,10 @@
+pub mod Layout
+pub mod Check
+pub mod Recover
+pub mod CheckLaws
+pub mod Coincide
+pub mod LayoutLaws
+pub mod PlanLaws
+pub mod Good
+pub mod Stays
+pub mod Count
