@@ -161,7 +161,7 @@ module _ (f : Field) where
   unfolding crashed
   crash-kept m n = recovery-other _ (At 0 0) f (n .place) ∙ idled-other (crashCopied m) 8 f (n .workers) ∙ crash-copy-other m f (n .words) (n .statuses) (n .bodies)
 
-  acted-kept : (m : Block) (e : Event) → Spared m e f → get (acted m e .memory) f ≡ get m f
+  pub acted-kept : (m : Block) (e : Event) → Spared m e f → get (acted m e .memory) f ≡ get m f
   acted-kept m (Open w) n = opened-kept m w (lowestBelow m (sizesIn m .k)) n
   acted-kept m (Add w a x y) n = added-kept m (buildOf (workerIn m w)) (record { address = a; expected = x; desired = y }) n
   acted-kept m (Remove w a) n = removed-kept m (buildOf (workerIn m w)) (entryFor Cached m (buildOf (workerIn m w)) a) n

@@ -97,7 +97,7 @@ refused-unchanged m e r f = go (refusalOf m e) f
     go (suc n) f = refl
 
 -- every table's numbers are refusals
-all-numbered : (m : Block) (e : Event) → numbered (checksOf m e) ≡ true
+pub all-numbered : (m : Block) (e : Event) → numbered (checksOf m e) ≡ true
 all-numbered m (Open w) = refl
 all-numbered m (Add w a x y) = refl
 all-numbered m (Remove w a) = refl

@@ -33,7 +33,7 @@ use Rattle.machine.specs.Step.{performed, planAt, workStep, readStep, re
 use Rattle.machine.specs.Recover.{crashed, placeAfter, recoveryPlanAt, recoveryStepAt, recoverOf}
 use Rattle.machine.specs.Apply.{acted, unlessRefused, applyOf, afterOf}
 
-performed-whole : (m : Block) (d : ℕ) (e : Effect) → Whole m → Whole (performed m d e)
+pub performed-whole : (m : Block) (d : ℕ) (e : Effect) → Whole m → Whole (performed m d e)
 performed-whole m d Nothing h = h
 performed-whole m d (StoreWord a s) h = whole-put m _ _ h
 performed-whole m d (E.the-variants.BackWord a) h = whole-put m _ _ h
@@ -41,7 +41,7 @@ performed-whole m d (StoreStatus s) h = whole-put m _ _ h
 performed-whole m d E.the-variants.BackStatus h = whole-put m _ _ h
 performed-whole m d E.the-variants.BackBody h = body-back-whole m d h
 
-inserted-whole : (i : ℕ) (m : Block) (d : ℕ) (e : Entry) → Whole m → Whole (inserted i m d e)
+pub inserted-whole : (i : ℕ) (m : Block) (d : ℕ) (e : Entry) → Whole m → Whole (inserted i m d e)
 unfolding inserted
 inserted-whole zero m d e h = entry-whole m d 0 e h
 inserted-whole (suc i) m d e h = go (ltb (e .address) (entryIn Cached m d i .address)) (λ x k. inserted-whole i x d e k)
@@ -51,7 +51,7 @@ inserted-whole (suc i) m d e h = go (ltb (e .address) (entryIn Cached m d i .add
     go true r = r (putEntry m d (suc i) (entryIn Cached m d i)) (entry-whole m d (suc i) (entryIn Cached m d i) h)
     go false r = entry-whole m d (suc i) e h
 
-moved-whole : (k : ℕ) (m : Block) (d i : ℕ) → Whole m → Whole (movedDown k m d i)
+pub moved-whole : (k : ℕ) (m : Block) (d i : ℕ) → Whole m → Whole (movedDown k m d i)
 unfolding movedDown
 moved-whole zero m d i h = entry-whole m d i noEntry h
 moved-whole (suc k) m d i h = moved-whole k (putEntry m d i (entryIn Cached m d (suc i))) d (suc i) (entry-whole m d i (entryIn Cached m d (suc i)) h)
