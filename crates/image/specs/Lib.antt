@@ -8,3 +8,7 @@ pub mod PlanLaws
 pub mod Good
 pub mod Stays
 pub mod Count
+pub mod Flat
+pub mod OfMemory
+pub mod Beside
+pub mod Machine
