@@ -8,18 +8,17 @@ rt check bench tick >build/bench.log 2>&1 || {
     exit 1
 }
 
-# best ROUNDS INPUT PROGRAM: the shortest time, in nanoseconds
-best() {
-    shortest=
-    round=0
-    while [ $round -lt "$1" ]; do
-        start=$(date +%s%N)
-        "$3" <"$2" >build/bench.out
-        end=$(date +%s%N)
-        [ -n "$shortest" ] && [ "$shortest" -le $((end - start)) ] || shortest=$((end - start))
-        round=$((round + 1))
-    done
-    echo "$shortest"
+# once INPUT PROGRAM: the time of one run, in nanoseconds; what it writes goes nowhere, so that no disk is timed
+once() {
+    start=$(date +%s%N)
+    "$2" <"$1" >/dev/null
+    end=$(date +%s%N)
+    echo $((end - start))
+}
+
+# least A B: the smaller one; A may be empty
+least() {
+    if [ -n "$1" ] && [ "$1" -le "$2" ]; then echo "$1"; else echo "$2"; fi
 }
 
 # tenths N: N tenths as a decimal
@@ -29,8 +28,11 @@ tenths() {
 
 events=20000000
 echo $events >build/bench.in
-time=$(best 5 build/bench.in target/bin/bench)
-echo "machine: $events contended events, $(tenths $((time * 10 / events))) ns an event, checksum $(cat build/bench.out)"
+time=
+for round in 1 2 3 4 5; do
+    time=$(least "$time" "$(once build/bench.in target/bin/bench)")
+done
+echo "machine: $events contended events, $(tenths $((time * 10 / events))) ns an event, checksum $(target/bin/bench <build/bench.in)"
 
 command -v gcc >/dev/null 2>&1 || {
     echo "tick: not timed, the model needs gcc"
@@ -38,9 +40,15 @@ command -v gcc >/dev/null 2>&1 || {
 }
 sh tests/model/build.sh || exit 1
 build/model/gen -n 5000000 1 >build/bench.schedule || exit 1
-ours=$(best 9 build/bench.schedule target/bin/tick)
-cp build/bench.out build/bench.ours
-model=$(best 9 build/bench.schedule build/model/tick)
+# in turns, so that both meet the same moods of the machine
+ours=
+model=
+for round in 1 2 3 4 5 6 7 8 9 10 11 12; do
+    ours=$(least "$ours" "$(once build/bench.schedule target/bin/tick)")
+    model=$(least "$model" "$(once build/bench.schedule build/model/tick)")
+done
+target/bin/tick <build/bench.schedule >build/bench.ours
+build/model/tick <build/bench.schedule >build/bench.out
 cmp -s build/bench.out build/bench.ours || {
     echo "tick: its output is not the model's"
     exit 1
