@@ -1,4 +1,4 @@
-/* The step machine of document 01, written from the page and its readings alone. Images are not modelled.
+/* The step machine of document 01, written from the page and its readings alone; images are in recover.c.
  * "rule N" is line N of "The steps of an operation d"; "reading N" is that of docs/DECISIONS.md. */
 #ifndef MACHINE_H
 #define MACHINE_H
