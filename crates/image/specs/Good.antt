@@ -125,7 +125,7 @@ few c t e =
     (ltb-true _ _ (and-left (ltb 0 c) (leb c 4) w), leb-true _ _ (and-right (ltb 0 c) (leb c 4) w))
 
 module _ (n : ℕ) (p : List ℕ) (b : badBody n p ≡ false) (f : isFree (statusIn p) ≡ false) where
-  open-body : (not (within (countIn p) 4) || someBelow (countIn p) (λ i. badAt n p i)) ≡ false
+  pub open-body : (not (within (countIn p) 4) || someBelow (countIn p) (λ i. badAt n p i)) ≡ false
   unfolding badBody
   open-body = rw f at b
 

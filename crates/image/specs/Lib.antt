@@ -12,3 +12,6 @@ pub mod Flat
 pub mod OfMemory
 pub mod Beside
 pub mod Machine
+pub mod Values
+pub mod Ends
+pub mod Cuts

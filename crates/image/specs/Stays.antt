@@ -65,7 +65,7 @@ module _ (n k : ℕ) (x : List ℕ) (g : Good n k x) (d done : ℕ) (r : Reached
       (entry-good n (partOf x n d) (g .bodies d (r .here)) (live (isFree (statusIn (partOf x n d))) refl l b) (done / 2) (b .1))
       .0
 
-  none-points : Past done (countIn (partOf x n d)) → (a : ℕ) → a < n → pointsTo (wordOf x a) d ≡ false
+  pub none-points : Past done (countIn (partOf x n d)) → (a : ℕ) → a < n → pointsTo (wordOf x a) d ≡ false
   unfolding badPointerAt badTarget hasWithin
   none-points past a h = go (pointsTo (wordOf x a) d) refl
     where

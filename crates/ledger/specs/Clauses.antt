@@ -1,4 +1,4 @@
--- Clauses of the statement that are proved so far, in its own words.
+-- Clauses of the statement on the ledger's values, in its own words.
 use mathlib.Core.Path.{_≡_, refl, ap}
 use mathlib.Core.Bool.{Bool, false}
 use mathlib.Core.List.{List}

@@ -69,7 +69,7 @@ module _ (n k w : ℕ) (nn : n ≤ 64) (kk : k ≤ 16) (ww : w ≤ 8) (kp : 0 < 
   abbrev m : ℕ → Block
   m j = memoryAt n k w es j
 
-  inv : Invariant n k (view (m i)) (ledger n k w es i) (inLedger n k w es i) (Differed n k w es i) (sent n k w es i)
+  pub inv : Invariant n k (view (m i)) (ledger n k w es i) (inLedger n k w es i) (Differed n k w es i) (sent n k w es i)
   unfolding At
   inv = at-every-moment n k w es nn kk ww kp i
 
@@ -80,14 +80,14 @@ module _ (n k w : ℕ) (nn : n ≤ 64) (kk : k ≤ 16) (ww : w ≤ 8) (kp : 0 < 
   ]
 
   module _ (d : ℕ) (e : enters n k w es i d ≡ true) where
-    fired : fires (cellsOf (m i) .status Cached d) (cellsOf (m i) .status Persisted d) ≡ true
+    pub fired : fires (cellsOf (m i) .status Cached d) (cellsOf (m i) .status Persisted d) ≡ true
     unfolding enters
     fired = wrote-at .backed d e
 
-    all : AllBelong (cellsOf (m i)) d × (cellsOf (m i) .status Persisted d ≡ Undecided)
+    pub all : AllBelong (cellsOf (m i)) d × (cellsOf (m i) .status Persisted d ≡ Undecided)
     all = fires-all (inv .agrees .pair d) fired
 
-    live : cellsOf (m i) .status Persisted d ≢ Free
+    pub live : cellsOf (m i) .status Persisted d ≢ Free
     live z = let y = all .1 in clash (cc)
 
     pub below-k : d < k

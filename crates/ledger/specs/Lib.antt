@@ -38,3 +38,10 @@ pub mod History
 pub mod Moments
 pub mod Clauses
 pub mod Instant
+pub mod Course
+pub mod Operations
+pub mod Once
+pub mod Last
+pub mod Answers
+pub mod ReadCourse
+pub mod Demand

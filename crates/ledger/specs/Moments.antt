@@ -41,7 +41,7 @@ use Rattle.ledger.specs.Turns.{fresh-invariant, turn-ok, submit-ok}
 use Rattle.ledger.specs.History.{memory-next, memory-past, event-turns}
 
 -- an accepted submission of d
-abbrev isOk : Answer → Bool
+abbrev pub isOk : Answer → Bool
 isOk Ok = true
 isOk (Opened d) = false
 isOk Moved = false
@@ -53,7 +53,7 @@ isOk Recovering = false
 isOk Recovered = false
 isOk (Refused r) = false
 
-abbrev begins : Block → Event → ℕ → Bool
+abbrev pub begins : Block → Event → ℕ → Bool
 begins m (Open w) d = false
 begins m (Add w a x y) d = false
 begins m (Remove w a) d = false
@@ -131,11 +131,11 @@ module _ (n k w : ℕ) (es : List Event) where
   abbrev pub Differed : ℕ → ℕ → Type 0
   Differed i d = (x : ℕ) × (since i d ≤ x) × (x ≤ i) × (a : ℕ) × Has (sent i d) a × (ledger n k w es x a ≢ expectedOf (sent i d) a)
 
-  since-old : (i d : ℕ) → begun i d ≡ false → since (suc i) d ≡ since i d
+  pub since-old : (i d : ℕ) → begun i d ≡ false → since (suc i) d ≡ since i d
   unfolding since
   since-old i d e = rw e
 
-  since-new : (i d : ℕ) → begun i d ≡ true → since (suc i) d ≡ i
+  pub since-new : (i d : ℕ) → begun i d ≡ true → since (suc i) d ≡ i
   unfolding since
   since-new i d e = rw e
 
