@@ -2,8 +2,9 @@
 
    An image is n words (1 to 64), then k descriptors (1 to 16) of 112 bytes each: status, count, and four entries of address, expected and
    desired. Every number is 8 bytes, little-endian. pmwcas_recover works in place, from descriptor 0, and performs at most `allowance` steps;
-   160 are always enough. After a cut call it again, from the start, as often as needed: every word keeps its value, and once the answer is
-   PMWCAS_COMPLETE every word is plain and every descriptor Free. A refused image is not touched.
+   160 are always enough. After a cut call it again: it begins at descriptor 0, so give it enough to come further than before. Every word keeps its
+   value, and once the answer is PMWCAS_COMPLETE every descriptor is Free and every word a plain value (bit 63, the dirty bit, of a word that was plain
+   before stays). A refused image is not touched.
 
    `length` is the number of bytes at `image`; nothing outside is read or written. */
 #ifndef PMWCAS_RECOVERY_H

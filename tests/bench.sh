@@ -55,3 +55,5 @@ cmp -s build/bench.out build/bench.ours || {
 }
 records=$(($(wc -l <build/bench.out) - 1))
 echo "tick: $records records, $(tenths $((ours * 10 / records))) ns a record; the model in C, gcc -O2: $(tenths $((model * 10 / records))) ns; ratio $(awk "BEGIN { printf \"%.2f\", $ours / $model }")"
+
+rt staticlib image >build/staticlib.log 2>&1 && sh tests/model/build.sh && build/model/bench_images
