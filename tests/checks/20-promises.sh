@@ -14,6 +14,13 @@ for lib in crates/*/src/lib.rt; do
     # every public line of a library's root is one that is understood here: a use of one name, a function, a type
     grep -n '^ *pub' "$lib" | grep -Ev ':(pub use [a-z_0-9]+::[a-z_0-9]+;|    pub [a-z_0-9]+: [A-Za-z0-9_]+,|pub (struct|enum) [A-Za-z]+ \{|pub type [A-Za-z]+ = .*;|pub fn |pub extern "C" fn )' >build/promises.odd
     while read -r line; do say "$lib:$line is of no form that this check knows"; done <build/promises.odd
+    # in its other files `pub` is for what the root passes on; what only this crate may call is `pub(crate)`
+    for file in crates/"$crate"/src/*.rt; do
+        [ "$file" != "$lib" ] || continue
+        for f in $(sed -n 's/^pub fn \([a-z_0-9]*\).*/\1/p' "$file"); do
+            grep -q "^pub use [a-z_0-9]*::$f;" "$lib" || say "$file: $f is pub, and the root does not pass it on"
+        done
+    done
     names=$(sed -n 's/^pub use .*::\([a-z_0-9]*\);$/\1/p; s/^ *\(#\[no_mangle\] *\)\{0,1\}pub \(extern "C" \)\{0,1\}fn \([a-z_0-9]*\).*/\3/p' "$lib")
     for f in $names; do
         count=$((count + 1))

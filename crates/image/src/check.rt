@@ -150,7 +150,7 @@ fn content_refusal(n: u64, k: u64, image: &[u8]) -> u64
 }
 
 // The refusal's number; 0 where there is none.
-pub fn refuse(n: u64, k: u64, image: &[u8]) -> u64
+pub(crate) fn refuse(n: u64, k: u64, image: &[u8]) -> u64
     ensures { λ r. ⌜ r ≡ C.imageRefusal n k (now (image .entry)) ⌝ }
 {
     if sizes_bad(n, k) {

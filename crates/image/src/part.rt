@@ -11,7 +11,7 @@ ghost use Rattle.image.specs.Layout as L;
 ghost use Rattle.image.specs.Check as C;
 
 // Free is the number 0.
-pub fn is_free(part: &[u8]) -> bool
+pub(crate) fn is_free(part: &[u8]) -> bool
     ensures { λ r. ⌜ r ≡ isFree (L.statusIn (now (part .entry))) ⌝ }
 {
     read_u64(part, 0) == 0
@@ -29,13 +29,13 @@ fn is_bad(s: Status) -> bool
 }
 
 // 21.
-pub fn status_bad(part: &[u8]) -> bool
+pub(crate) fn status_bad(part: &[u8]) -> bool
     ensures { λ r. ⌜ r ≡ C.badStatus (now (part .entry)) ⌝ }
 {
     is_bad(status_of(read_u64(part, 0)))
 }
 
-pub fn entry_in(part: &[u8], i: u64) -> Entry
+pub(crate) fn entry_in(part: &[u8], i: u64) -> Entry
     requires { ⌜ i ≤ 4 ⌝ }
     ensures { λ r. ⌜ r ≡ L.entryIn (now (part .entry)) i ⌝ }
 {
@@ -90,7 +90,7 @@ fn entries_bad(n: u64, part: &[u8], count: u64) -> bool
 }
 
 // 22. A Free body and entries past the count are not looked at.
-pub fn body_bad(n: u64, part: &[u8]) -> bool
+pub(crate) fn body_bad(n: u64, part: &[u8]) -> bool
     ensures { λ r. ⌜ r ≡ C.badBody n (now (part .entry)) ⌝ }
 {
     if is_free(part) {
@@ -123,7 +123,7 @@ fn has_address(part: &[u8], entries: u64, a: u64) -> bool
 }
 
 // 24: a Free descriptor, or one without that address. Check 22 has passed its body.
-pub fn lacks(n: u64, part: &[u8], a: u64) -> bool
+pub(crate) fn lacks(n: u64, part: &[u8], a: u64) -> bool
     requires { ⌜ C.badBody n (now part) ≡ false ⌝ }
     ensures { λ r. ⌜ r ≡ (isFree (L.statusIn (now (part .entry))) || not (C.hasAddress (now (part .entry)) a)) ⌝ }
 {

@@ -96,7 +96,7 @@ fn answer_for(p: RecoveryPlace) -> u64
 }
 
 // At most so many steps, from descriptor 0.
-pub fn run(n: u64, k: u64, image: &mut [u8], allowance: u64) -> Recovery
+pub(crate) fn run(n: u64, k: u64, image: &mut [u8], allowance: u64) -> Recovery
     requires { ⌜ L.Sized n k (now image) × (0 < k) ⌝ }
     ensures { λ r. ⌜ R.recovered (now (image .exit)) r ≡ R.reported (R.runFrom allowance n k (now (image .entry)) (At 0 0)) ⌝ }
 {

@@ -15,7 +15,7 @@ ghost use mathlib.Core.Path.{_≡_};
 ghost use Rattle.machine.specs.Recover as R;
 ghost use Rattle.events.specs.Left.{left};
 
-pub fn crash(m: &mut Memory)
+pub(crate) fn crash(m: &mut Memory)
     ensures { λ _. ⌜ now (m .exit) ≡ R.crashed (now (m .entry)) ⌝ }
 {
     crash_copy(m);
@@ -69,7 +69,7 @@ fn recovery_step(m: &mut Memory, k: u64, d: u64, s: u64) -> Answer
 }
 
 // One step of recovery, of k descriptors, from place p.
-pub fn recover(m: &mut Memory, k: u64, p: RecoveryPlace) -> Answer
+pub(crate) fn recover(m: &mut Memory, k: u64, p: RecoveryPlace) -> Answer
     ensures { λ r. ⌜ left (now (m .exit)) r ≡ R.recoverOf (now (m .entry)) k p ⌝ }
 {
     match p {

@@ -44,7 +44,7 @@ ghost use Rattle.machine.specs.Step as S;
 ghost use Rattle.events.specs.Left.{left};
 
 // What a step at entry i of d looks at.
-pub fn look(m: &Memory, c: Copy, d: u64, i: u64) -> Seen
+pub(crate) fn look(m: &Memory, c: Copy, d: u64, i: u64) -> Seen
     ensures { λ r. ⌜ r ≡ S.seenIn c (now (m .entry)) d i ⌝ }
 {
     let entry = read_entry(m, c, d, i);
@@ -74,7 +74,7 @@ fn perform(m: &mut Memory, d: u64, e: Effect)
 
 // The same for a read and for recovery, word for word. `perform` is called from one place, so that the compiler puts it there and sees which effect
 // each place of an operation has; with more callers it does not, and `tick` takes a twelfth longer.
-pub fn perform_apart(m: &mut Memory, d: u64, e: Effect)
+pub(crate) fn perform_apart(m: &mut Memory, d: u64, e: Effect)
     ensures { λ _. ⌜ now (m .exit) ≡ S.performed (now (m .entry)) d e ⌝ }
 {
     match e {
@@ -257,7 +257,7 @@ fn read_clear_step(m: &mut Memory, w: u64, a: u64, v: u64) -> Answer
 }
 
 // A step of worker w, which is x.
-pub fn step(m: &mut Memory, w: u64, x: Worker) -> Answer
+pub(crate) fn step(m: &mut Memory, w: u64, x: Worker) -> Answer
     ensures { λ r. ⌜ left (now (m .exit)) r ≡ S.stepOf (now (m .entry)) w x ⌝ }
 {
     match x {

@@ -6,13 +6,13 @@ ghost use Prim.Native.Nat.{_≤_};
 ghost use Rattle.memory.specs.Block.{at, store, baseOf, slot};
 ghost use Rattle.memory.specs.Block.Field.{word, status, body};
 
-pub fn load(m: &Memory, i: usize) -> u64
+pub(crate) fn load(m: &Memory, i: usize) -> u64
     ensures { λ r. ⌜ r ≡ at (now (m .entry)) i ⌝ }
 {
     if i < 646 { m[i] } else { 0 }
 }
 
-pub fn save(m: &mut Memory, i: usize, v: u64)
+pub(crate) fn save(m: &mut Memory, i: usize, v: u64)
     ensures { λ _. ⌜ now (m .exit) ≡ store (now (m .entry)) i v ⌝ }
 {
     if i < 646 {
@@ -20,7 +20,7 @@ pub fn save(m: &mut Memory, i: usize, v: u64)
     }
 }
 
-pub fn base(c: Copy) -> usize
+pub(crate) fn base(c: Copy) -> usize
     ensures { λ r. ⌜ (r ≡ baseOf c) × (r ≤ 288) ⌝ }
 {
     match c {
@@ -29,7 +29,7 @@ pub fn base(c: Copy) -> usize
     }
 }
 
-pub fn word_slot(c: Copy, a: u64) -> usize
+pub(crate) fn word_slot(c: Copy, a: u64) -> usize
     ensures { λ r. ⌜ r ≡ slot (word c a) ⌝ }
 {
     if a < 64 {
@@ -38,7 +38,7 @@ pub fn word_slot(c: Copy, a: u64) -> usize
     646
 }
 
-pub fn status_slot(c: Copy, d: u64) -> usize
+pub(crate) fn status_slot(c: Copy, d: u64) -> usize
     ensures { λ r. ⌜ r ≡ slot (status c d) ⌝ }
 {
     if d < 16 {
@@ -47,7 +47,7 @@ pub fn status_slot(c: Copy, d: u64) -> usize
     646
 }
 
-pub fn body_slot(c: Copy, d: u64, j: u64) -> usize
+pub(crate) fn body_slot(c: Copy, d: u64, j: u64) -> usize
     ensures { λ r. ⌜ (r ≡ slot (body c d j)) × (r ≤ 646) ⌝ }
 {
     if d < 16 {

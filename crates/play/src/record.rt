@@ -44,7 +44,7 @@ fn begun_in(s: Stage) -> bool
 }
 
 // A refusal 1 or 3: its line, and reading is over.
-pub fn refused_turn(m: &Memory, s: Stage, out: &mut [u8], to: usize, r: u64) -> Mark
+pub(crate) fn refused_turn(m: &Memory, s: Stage, out: &mut [u8], to: usize, r: u64) -> Mark
     ensures { λ x. ⌜ D.marked (now (m .entry)) x (now (out .exit)) ≡ D.markedBy (now (out .entry)) to (T.refusedTurn (now (m .entry)) s r) ⌝ }
 {
     let end = put_line(out, to, number_in(s), Answer::Refused(r));
@@ -73,7 +73,7 @@ fn event_turn(m: &mut Memory, i: u64, kind: u8, body: &[u8], out: &mut [u8], to:
 }
 
 // A record; the first is the setup.
-pub fn record_turn(
+pub(crate) fn record_turn(
     m: &mut Memory,
     s: Stage,
     kind: u8,

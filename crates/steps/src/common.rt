@@ -15,14 +15,14 @@ ghost use lib.Dec.{eqb};
 ghost use mathlib.Core.Bool.{_&&_};
 ghost use Rattle.steps.specs.Plan as P;
 
-pub fn same(a: u64, b: u64) -> bool
+pub(crate) fn same(a: u64, b: u64) -> bool
     ensures { λ r. ⌜ r ≡ eqb a b ⌝ }
 {
     a == b
 }
 
 // A pointer to d, dirty or clean.
-pub fn points_to(s: Sort, d: u64) -> bool
+pub(crate) fn points_to(s: Sort, d: u64) -> bool
     ensures { λ r. ⌜ r ≡ P.pointsTo s d ⌝ }
 {
     match s {
@@ -39,7 +39,7 @@ fn when(t: bool, b: bool) -> bool
 }
 
 // Exactly the dirty pointer to d.
-pub fn is_dirty_pointer(s: Sort, d: u64) -> bool
+pub(crate) fn is_dirty_pointer(s: Sort, d: u64) -> bool
     ensures { λ r. ⌜ r ≡ P.isDirtyPointer s d ⌝ }
 {
     match s {
@@ -50,7 +50,7 @@ pub fn is_dirty_pointer(s: Sort, d: u64) -> bool
 }
 
 // Exactly the dirty plain word v.
-pub fn is_dirty_plain(s: Sort, v: u64) -> bool
+pub(crate) fn is_dirty_plain(s: Sort, v: u64) -> bool
     ensures { λ r. ⌜ r ≡ P.isDirtyPlain s v ⌝ }
 {
     match s {
@@ -61,7 +61,7 @@ pub fn is_dirty_plain(s: Sort, v: u64) -> bool
 }
 
 // The outcome that a status holds; Failed where it holds none.
-pub fn outcome_of(s: Status) -> Outcome
+pub(crate) fn outcome_of(s: Status) -> Outcome
     ensures { λ r. ⌜ r ≡ P.outcomeOf s ⌝ }
 {
     match s {
@@ -72,7 +72,7 @@ pub fn outcome_of(s: Status) -> Outcome
     }
 }
 
-pub fn chosen(o: Outcome, e: Entry) -> u64
+pub(crate) fn chosen(o: Outcome, e: Entry) -> u64
     ensures { λ r. ⌜ r ≡ P.chosen o e ⌝ }
 {
     match o {
@@ -82,14 +82,14 @@ pub fn chosen(o: Outcome, e: Entry) -> u64
 }
 
 // The value that an operation of this status leaves at an entry.
-pub fn left_value(s: Status, e: Entry) -> u64
+pub(crate) fn left_value(s: Status, e: Entry) -> u64
     ensures { λ r. ⌜ r ≡ P.leftValue s e ⌝ }
 {
     chosen(outcome_of(s), e)
 }
 
 // A store of a word where a test holds.
-pub fn store_if(t: bool, a: u64, s: Sort) -> Effect
+pub(crate) fn store_if(t: bool, a: u64, s: Sort) -> Effect
     ensures { λ r. ⌜ r ≡ P.storeIf t a s ⌝ }
 {
     if t {

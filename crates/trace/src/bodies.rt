@@ -76,7 +76,14 @@ fn put_change(out: &mut [u8], at: usize, old: &Memory, m: &Memory, d: u64, all: 
     at
 }
 
-pub fn put_bodies(out: &mut [u8], at: usize, old: &Memory, m: &Memory, k: u64, all: bool) -> usize {
+pub(crate) fn put_bodies(
+    out: &mut [u8],
+    at: usize,
+    old: &Memory,
+    m: &Memory,
+    k: u64,
+    all: bool,
+) -> usize {
     let mut to = at;
     let mut d: u64 = 0;
     while d < k {

@@ -43,7 +43,7 @@ fn put_topic(
 }
 
 // Only addresses below n, descriptors below k, workers below w have lines.
-pub fn put_changes(out: &mut [u8], at: usize, old: &Memory, m: &Memory, all: bool) -> usize {
+pub(crate) fn put_changes(out: &mut [u8], at: usize, old: &Memory, m: &Memory, all: bool) -> usize {
     let s = read_sizes(m);
     let b = put_topic(out, at, old, m, Topic::Word, s.n, all);
     let c = put_topic(out, b, old, m, Topic::Status, s.k, all);

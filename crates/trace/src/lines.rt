@@ -37,7 +37,7 @@ use steps::RecoveryPlace;
 use steps::Worker;
 
 // What a line is about.
-pub enum Topic {
+pub(crate) enum Topic {
     Word,
     Status,
     Worker,
@@ -45,7 +45,7 @@ pub enum Topic {
 }
 
 // A part that a line does not need is blank.
-pub struct Line {
+pub(crate) struct Line {
     pub name: Part,
     pub a: Part,
     pub b: Part,
@@ -110,7 +110,7 @@ fn recovery_line(p: RecoveryPlace) -> Line {
     }
 }
 
-pub fn line_of(m: &Memory, t: Topic, i: u64) -> Line {
+pub(crate) fn line_of(m: &Memory, t: Topic, i: u64) -> Line {
     match t {
         Topic::Word => word_line(m, i),
         Topic::Status => status_line(m, i),
@@ -120,11 +120,11 @@ pub fn line_of(m: &Memory, t: Topic, i: u64) -> Line {
 }
 
 // Whether two lines of one name say the same.
-pub fn same_line(x: Line, y: Line) -> bool {
+pub(crate) fn same_line(x: Line, y: Line) -> bool {
     same(x.a, y.a) && same(x.b, y.b) && same(x.c, y.c) && same(x.d, y.d)
 }
 
-pub fn put_whole(out: &mut [u8], at: usize, x: Line) -> usize {
+pub(crate) fn put_whole(out: &mut [u8], at: usize, x: Line) -> usize {
     let b = put_part(out, at, x.name);
     let c = put_part(out, b, x.a);
     let d = put_part(out, c, x.b);

@@ -1,5 +1,5 @@
 // Writes the first n bytes of the output; whether that went well.
-pub fn write_out(out: &[u8], n: usize) -> bool {
+pub(crate) fn write_out(out: &[u8], n: usize) -> bool {
     if out.len() < n {
         return false;
     }

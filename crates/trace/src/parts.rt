@@ -4,26 +4,26 @@ use crate::texts::text_of;
 use answers::put_byte;
 use answers::put_decimal;
 
-pub struct Part {
+pub(crate) struct Part {
     pub text: usize,
     pub number: u64,
 }
 
-pub fn with(text: usize, number: u64) -> Part {
+pub(crate) fn with(text: usize, number: u64) -> Part {
     Part { text, number }
 }
 
 // A text without a number.
-pub fn plain(text: usize) -> Part {
+pub(crate) fn plain(text: usize) -> Part {
     with(text, 0)
 }
 
 // No text.
-pub fn blank() -> Part {
+pub(crate) fn blank() -> Part {
     plain(NOTHING)
 }
 
-pub fn same(x: Part, y: Part) -> bool {
+pub(crate) fn same(x: Part, y: Part) -> bool {
     x.text == y.text && x.number == y.number
 }
 
@@ -46,7 +46,7 @@ fn put_signs(out: &mut [u8], at: usize, text: &[u8], n: u64) -> usize {
     to
 }
 
-pub fn put_part(out: &mut [u8], at: usize, p: Part) -> usize {
+pub(crate) fn put_part(out: &mut [u8], at: usize, p: Part) -> usize {
     let text = text_of(p.text);
     put_signs(out, at, &text, p.number)
 }

@@ -15,7 +15,7 @@ ghost use lib.ListN.{length};
 const HALF: usize = 32768;
 
 // Whether there was a good setup, and so a memory to show.
-pub fn has_begun(s: Stage) -> bool {
+pub(crate) fn has_begun(s: Stage) -> bool {
     match s {
         Stage::First => false,
         Stage::At(_) => true,
@@ -84,7 +84,7 @@ fn play_one(
 }
 
 // Plays every whole record of a piece, and writes all of their text.
-pub fn play_piece(m: &mut Memory, stage: Stage, input: &[u8], out: &mut [u8]) -> Progress
+pub(crate) fn play_piece(m: &mut Memory, stage: Stage, input: &[u8], out: &mut [u8]) -> Progress
     ensures { λ r. ⌜ r .used ≤ length (now (input .entry)) ⌝ }
 {
     let mut s = stage;

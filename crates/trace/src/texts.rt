@@ -65,122 +65,122 @@ const TEXTS: [[u8; 22]; 53] = [
 ];
 
 // The names of lines, and of the copies.
-pub const NOTHING: usize = 0;
+pub(crate) const NOTHING: usize = 0;
 
-pub const WORD: usize = 1;
+pub(crate) const WORD: usize = 1;
 
-pub const STATUS: usize = 2;
+pub(crate) const STATUS: usize = 2;
 
-pub const BODY: usize = 3;
+pub(crate) const BODY: usize = 3;
 
-pub const WORKER: usize = 4;
+pub(crate) const WORKER: usize = 4;
 
-pub const RECOVERY: usize = 5;
+pub(crate) const RECOVERY: usize = 5;
 
-pub const CACHED: usize = 6;
+pub(crate) const CACHED: usize = 6;
 
-pub const PERSISTED: usize = 7;
+pub(crate) const PERSISTED: usize = 7;
 
 // Words.
-pub const PLAIN: usize = 8;
+pub(crate) const PLAIN: usize = 8;
 
-pub const PLAIN_DIRTY: usize = 9;
+pub(crate) const PLAIN_DIRTY: usize = 9;
 
-pub const POINTER: usize = 10;
+pub(crate) const POINTER: usize = 10;
 
-pub const POINTER_DIRTY: usize = 11;
+pub(crate) const POINTER_DIRTY: usize = 11;
 
-pub const NEITHER: usize = 12;
+pub(crate) const NEITHER: usize = 12;
 
 // Statuses.
-pub const FREE: usize = 13;
+pub(crate) const FREE: usize = 13;
 
-pub const UNDECIDED: usize = 14;
+pub(crate) const UNDECIDED: usize = 14;
 
-pub const SUCCEEDED: usize = 15;
+pub(crate) const SUCCEEDED: usize = 15;
 
-pub const SUCCEEDED_DIRTY: usize = 16;
+pub(crate) const SUCCEEDED_DIRTY: usize = 16;
 
-pub const FAILED: usize = 17;
+pub(crate) const FAILED: usize = 17;
 
-pub const FAILED_DIRTY: usize = 18;
+pub(crate) const FAILED_DIRTY: usize = 18;
 
-pub const BAD: usize = 19;
+pub(crate) const BAD: usize = 19;
 
 // Bodies.
-pub const EMPTY: usize = 20;
+pub(crate) const EMPTY: usize = 20;
 
-pub const ADDRESS: usize = 21;
+pub(crate) const ADDRESS: usize = 21;
 
-pub const EXPECTED: usize = 22;
+pub(crate) const EXPECTED: usize = 22;
 
-pub const DESIRED: usize = 23;
+pub(crate) const DESIRED: usize = 23;
 
 // What a worker owns and helps.
-pub const IDLE: usize = 24;
+pub(crate) const IDLE: usize = 24;
 
-pub const BUILDING: usize = 25;
+pub(crate) const BUILDING: usize = 25;
 
-pub const OPERATION: usize = 26;
+pub(crate) const OPERATION: usize = 26;
 
-pub const READ: usize = 27;
+pub(crate) const READ: usize = 27;
 
-pub const HELPS: usize = 28;
+pub(crate) const HELPS: usize = 28;
 
 // Steps.
-pub const BACK_BODY: usize = 29;
+pub(crate) const BACK_BODY: usize = 29;
 
-pub const STORE_UNDECIDED: usize = 30;
+pub(crate) const STORE_UNDECIDED: usize = 30;
 
-pub const BACK_UNDECIDED: usize = 31;
+pub(crate) const BACK_UNDECIDED: usize = 31;
 
-pub const INSTALL: usize = 32;
+pub(crate) const INSTALL: usize = 32;
 
-pub const INSTALL_CLEAR: usize = 33;
+pub(crate) const INSTALL_CLEAR: usize = 33;
 
-pub const PERSIST: usize = 34;
+pub(crate) const PERSIST: usize = 34;
 
-pub const PERSIST_CLEAR: usize = 35;
+pub(crate) const PERSIST_CLEAR: usize = 35;
 
-pub const DECIDE_SUCCEEDED: usize = 36;
+pub(crate) const DECIDE_SUCCEEDED: usize = 36;
 
-pub const DECIDE_FAILED: usize = 37;
+pub(crate) const DECIDE_FAILED: usize = 37;
 
-pub const SETTLE: usize = 38;
+pub(crate) const SETTLE: usize = 38;
 
-pub const SETTLE_CLEAR: usize = 39;
+pub(crate) const SETTLE_CLEAR: usize = 39;
 
-pub const SWAP: usize = 40;
+pub(crate) const SWAP: usize = 40;
 
-pub const SWAP_BACK: usize = 41;
+pub(crate) const SWAP_BACK: usize = 41;
 
-pub const SWAP_CLEAR: usize = 42;
+pub(crate) const SWAP_CLEAR: usize = 42;
 
-pub const STORE_FREE: usize = 43;
+pub(crate) const STORE_FREE: usize = 43;
 
-pub const BACK_FREE: usize = 44;
+pub(crate) const BACK_FREE: usize = 44;
 
-pub const READ_WORD: usize = 45;
+pub(crate) const READ_WORD: usize = 45;
 
-pub const READ_CLEAR: usize = 46;
+pub(crate) const READ_CLEAR: usize = 46;
 
 // What a step has noted.
-pub const SEEN: usize = 47;
+pub(crate) const SEEN: usize = 47;
 
-pub const THEN_S: usize = 48;
+pub(crate) const THEN_S: usize = 48;
 
-pub const THEN_F: usize = 49;
+pub(crate) const THEN_F: usize = 49;
 
 // Recovery.
-pub const OUTSIDE: usize = 50;
+pub(crate) const OUTSIDE: usize = 50;
 
-pub const DESCRIPTOR: usize = 51;
+pub(crate) const DESCRIPTOR: usize = 51;
 
-pub const DONE: usize = 52;
+pub(crate) const DONE: usize = 52;
 
-pub type Text = [u8; 22];
+pub(crate) type Text = [u8; 22];
 
-pub fn text_of(k: usize) -> Text {
+pub(crate) fn text_of(k: usize) -> Text {
     if k < 53 {
         return TEXTS[k];
     }

@@ -23,7 +23,7 @@ fn by_mark(dirty: bool, set: usize, clear: usize) -> usize {
     if dirty { set } else { clear }
 }
 
-pub fn word_part(s: Sort) -> Part {
+pub(crate) fn word_part(s: Sort) -> Part {
     match s {
         Sort::Plain(v, dirty) => with(by_mark(dirty, PLAIN_DIRTY, PLAIN), v),
         Sort::Pointer(d, dirty) => with(by_mark(dirty, POINTER_DIRTY, POINTER), d),
@@ -38,7 +38,7 @@ fn decided(o: Outcome, dirty: bool) -> Part {
     }
 }
 
-pub fn status_part(s: Status) -> Part {
+pub(crate) fn status_part(s: Status) -> Part {
     match s {
         Status::Free => plain(FREE),
         Status::Undecided => plain(UNDECIDED),

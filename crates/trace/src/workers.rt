@@ -29,7 +29,7 @@ use steps::Own;
 use steps::Place;
 use word::Outcome;
 
-pub fn owned_part(o: Own) -> Part {
+pub(crate) fn owned_part(o: Own) -> Part {
     match o {
         Own::Operation(d) => with(OPERATION, d),
         Own::Read(a) => with(READ, a),
@@ -44,7 +44,7 @@ fn own_job(o: Own, job: u64) -> bool {
     }
 }
 
-pub fn helped_part(o: Own, job: u64) -> Part {
+pub(crate) fn helped_part(o: Own, job: u64) -> Part {
     if own_job(o, job) {
         return blank();
     }
@@ -60,7 +60,7 @@ fn by_outcome(o: Outcome, succeeded: usize, failed: usize) -> Part {
 }
 
 // The step by document 01's number, and what it does.
-pub fn step_part(p: Place) -> Part {
+pub(crate) fn step_part(p: Place) -> Part {
     match p {
         Place::BackBody => plain(BACK_BODY),
         Place::StoreUndecided => plain(STORE_UNDECIDED),
@@ -81,7 +81,7 @@ pub fn step_part(p: Place) -> Part {
 }
 
 // What the step has noted: the value seen, or the answer.
-pub fn noted_part(p: Place) -> Part {
+pub(crate) fn noted_part(p: Place) -> Part {
     match p {
         Place::InstallClear(_, v) => with(SEEN, v),
         Place::BackFree(o) => by_outcome(o, THEN_S, THEN_F),

@@ -16,7 +16,7 @@ fn alike(a: &[u8], b: &[u8]) -> usize {
 }
 
 // The name and `same`, or the first byte that differs; whether it is the same.
-pub fn report(name: &[u8], got: &[u8], wanted: &[u8]) -> bool {
+pub(crate) fn report(name: &[u8], got: &[u8], wanted: &[u8]) -> bool {
     let n = alike(got, wanted);
     io::write_all(1, name);
     if n == got.len() && n == wanted.len() {

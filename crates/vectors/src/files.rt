@@ -4,13 +4,13 @@ ghost use lib.ListN.{length};
 use answers::put_text;
 
 // What was read of a file: how many bytes, and whether that is all of it.
-pub struct Part {
+pub(crate) struct Part {
     pub n: usize,
     pub whole: bool,
 }
 
 // Reads a file to the start of a buffer; one that fills the buffer may be longer, and does not count as whole.
-pub fn load(path: &[u8], buf: &mut [u8]) -> Part
+pub(crate) fn load(path: &[u8], buf: &mut [u8]) -> Part
     ensures { λ r. ⌜ r .n ≤ length (now (buf .exit)) ⌝ }
 {
     let fd = os::open_read(path);
@@ -36,7 +36,7 @@ fn load_by(path: &mut [u8], name: &[u8], ending: &[u8], buf: &mut [u8]) -> Part
 }
 
 // Reads the file with a name and an ending.
-pub fn load_part(name: &[u8], ending: &[u8], buf: &mut [u8]) -> Part
+pub(crate) fn load_part(name: &[u8], ending: &[u8], buf: &mut [u8]) -> Part
     ensures { λ r. ⌜ r .n ≤ length (now (buf .exit)) ⌝ }
 {
     let mut path = io::buffer();
@@ -44,7 +44,7 @@ pub fn load_part(name: &[u8], ending: &[u8], buf: &mut [u8]) -> Part
 }
 
 // The length of the first line.
-pub fn line_length(text: &[u8]) -> usize
+pub(crate) fn line_length(text: &[u8]) -> usize
     ensures { λ r. ⌜ r ≤ length (now (text .entry)) ⌝ }
 {
     let mut i = 0;

@@ -45,7 +45,7 @@ fn play_records(m: &mut Memory, input: &[u8], out: &mut [u8]) -> Progress
 }
 
 // How many bytes the output has.
-pub fn whole_output(input: &[u8], out: &mut [u8]) -> usize
+pub(crate) fn whole_output(input: &[u8], out: &mut [u8]) -> usize
     ensures { λ r. ⌜ r ≤ length (now (out .exit)) ⌝ }
 {
     let mut m = [0u64; 646];
