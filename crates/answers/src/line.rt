@@ -1,5 +1,6 @@
 // The line of a record, and the last line.
 use crate::text::put_byte;
+use crate::text::put_count;
 use crate::text::put_decimal;
 use events::Answer;
 use memory::Memory;
@@ -75,7 +76,7 @@ fn put_answer(out: &mut [u8], at: usize, a: Answer) -> usize
 pub fn put_line(out: &mut [u8], at: usize, number: u64, a: Answer) -> usize
     ensures { λ r. ⌜ filled (now (out .exit)) r ≡ putOf (now (out .entry)) at (lineOf number a) ⌝ }
 {
-    let b = put_decimal(out, at, number);
+    let b = put_count(out, at, number);
     let c = put_answer(out, b, a);
     put_byte(out, c, b'\n')
 }

@@ -81,3 +81,17 @@ pub fn put_decimal(out: &mut [u8], at: usize, n: u64) -> usize
     let b = put_decimal(out, at, n / 10000);
     put_four(out, b, n)
 }
+
+// The same for the number of a record, which mostly has at most eight digits: called from one place, it is put there by the compiler.
+pub(crate) fn put_count(out: &mut [u8], at: usize, n: u64) -> usize
+    ensures { λ r. ⌜ filled (now (out .exit)) r ≡ putOf (now (out .entry)) at (decimalOf n) ⌝ }
+{
+    if n < 10000 {
+        return put_short(out, at, n);
+    }
+    if n < 100000000 {
+        let b = put_short(out, at, n / 10000);
+        return put_four(out, b, n);
+    }
+    put_decimal(out, at, n)
+}

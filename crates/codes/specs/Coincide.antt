@@ -1,5 +1,6 @@
 -- For every public function: two results that keep its promise coincide.
 use mathlib.Core.Path.{_≡_}
+use mathlib.Core.Bool.{Bool}
 use Prim.Native.Nat.{ℕ}
 use Rattle.word.specs.Coincide.{coincide}
 use Rattle.steps.specs.declared.Place.{Place}
@@ -8,7 +9,16 @@ use Rattle.steps.specs.declared.Worker.{Worker}
 use Rattle.steps.specs.declared.RecoveryPlace.{RecoveryPlace}
 use Rattle.codes.specs.declared.Row.{Row}
 use Rattle.codes.specs.declared.RecoveryRow.{RecoveryRow}
-use Rattle.codes.specs.Row.{workerOf, rowOf, rowWorking, recoveryOf, recoveryRow}
+use Rattle.codes.specs.Row.{placeIn, ownIn, isWorking, workerOf, rowOf, rowWorking, recoveryOf, recoveryRow}
+
+pub place-in : (x : Row) (r s : Place) → r ≡ placeIn x → s ≡ placeIn x → r ≡ s
+place-in x r s = coincide
+
+pub own-in : (x : Row) (r s : Own) → r ≡ ownIn x → s ≡ ownIn x → r ≡ s
+own-in x r s = coincide
+
+pub is-working : (x : Row) (r s : Bool) → r ≡ isWorking (workerOf x) → s ≡ isWorking (workerOf x) → r ≡ s
+is-working x r s = coincide
 
 pub worker-of : (x : Row) (r s : Worker) → r ≡ workerOf x → s ≡ workerOf x → r ≡ s
 worker-of x r s = coincide

@@ -1,5 +1,5 @@
 -- A worker as the six numbers of its row, recovery's place as three.
-use mathlib.Core.Bool.{cond}
+use mathlib.Core.Bool.{Bool, true, false, cond}
 use Prim.Native.Nat.{ℕ}
 use lib.Dec.{eqb}
 use Rattle.steps.specs.declared.Place.{Place}
@@ -15,6 +15,18 @@ use Rattle.codes.specs.Place.{placeOf, placeNumber, placeEntry, placeNot
 
 abbrev pub placeIn : Row → Place
 placeIn r = placeOf (r .place) (r .entry) (r .noted)
+
+-- what a worker owns that runs an operation
+abbrev pub ownIn : Row → Own
+ownIn r = cond (eqb (r .tag) 3) (Read (r .own)) (Operation (r .own))
+
+-- the worker runs an operation, its own or another's
+abbrev pub isWorking : Worker → Bool
+isWorking Idle = false
+isWorking (Building d) = false
+isWorking (Working o e p) = true
+isWorking (Reading a) = false
+isWorking (ReadClear a v) = false
 
 -- any other tag reads as an idle worker
 unfoldable pub workerOf : Row → Worker

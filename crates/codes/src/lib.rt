@@ -6,7 +6,7 @@ use steps::Worker;
 use word::Outcome;
 ghost use mathlib.Core.Path.{_≡_};
 ghost use Rattle.codes.specs.Place.{placeOf, placeNumber, placeEntry, placeNoted};
-ghost use Rattle.codes.specs.Row.{workerOf, rowOf, rowBare, rowAt, recoveryOf, recoveryRow};
+ghost use Rattle.codes.specs.Row.{placeIn, ownIn, isWorking, workerOf, rowOf, rowBare, rowAt, recoveryOf, recoveryRow};
 
 // A worker's row: what it is, what it owns, its current job, its place there, the entry, what it noted.
 pub struct Row {
@@ -125,10 +125,37 @@ fn place_noted(p: Place) -> u64
     }
 }
 
+// The place of a worker that runs something.
+pub fn place_in(r: Row) -> Place
+    ensures { λ p. ⌜ p ≡ placeIn r ⌝ }
+{
+    place_of(r.place, r.entry, r.noted)
+}
+
+// The worker runs an operation, its own or another's.
+pub fn is_working(r: Row) -> bool
+    ensures { λ t. ⌜ t ≡ isWorking (workerOf r) ⌝ }
+{
+    if r.tag < 2 {
+        return false;
+    }
+    r.tag <= 3
+}
+
+// What it owns then.
+pub fn own_in(r: Row) -> Own
+    ensures { λ o. ⌜ o ≡ ownIn r ⌝ }
+{
+    if r.tag == 3 {
+        return Own::Read(r.own);
+    }
+    Own::Operation(r.own)
+}
+
 pub fn worker_of(r: Row) -> Worker
     ensures { λ x. ⌜ x ≡ workerOf r ⌝ }
 {
-    let p = place_of(r.place, r.entry, r.noted);
+    let p = place_in(r);
     let k = r.tag;
     match k {
         1 => Worker::Building(r.own),

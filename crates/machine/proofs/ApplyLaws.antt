@@ -9,11 +9,13 @@ use Rattle.steps.specs.declared.Place.the-variants.{BackBody}
 use Rattle.steps.specs.declared.Worker.{Worker}
 use Rattle.steps.specs.declared.Worker.the-variants.{Idle, Working, Reading}
 use Rattle.steps.specs.declared.RecoveryPlace.{RecoveryPlace}
+use Rattle.codes.specs.declared.Row.{Row}
+use Rattle.codes.specs.Row.{workerOf}
 use Rattle.memory.specs.declared.Copy.the-variants.{Cached}
 use Rattle.memory.specs.declared.Found.{Found}
 use Rattle.memory.specs.declared.Sizes.{Sizes}
 use Rattle.memory.specs.Block.{Block}
-use Rattle.memory.specs.Content.{backWord, backStatus, workerIn, putWorker, recoveryIn}
+use Rattle.memory.specs.Content.{backWord, backStatus, rowIn, workerIn, putWorker, recoveryIn}
 use Rattle.memory.specs.Content as C
 use Rattle.memory.specs.Fresh.{sizesIn}
 use Rattle.memory.specs.Value.{entryFor}
@@ -103,15 +105,16 @@ module _ (m : Block) (w : ℕ) (x : Worker) (r : ℕ) (e : x ≡ workerIn m w) w
     pub read-done : (y : Block) → r ≡ 0 → y ≡ putWorker m w (Reading a) → left y Ok ≡ applyOf m (Ev.Read w a)
     read-done y z k = accepted m (Ev.Read w a) r (left y Ok) read-table z (rw k)
 
-  module _ (t : r ≡ firstOf (stepChecks m w x)) where
-    step-table : r ≡ firstOf (checksOf m (Ev.Step w))
-    step-table = t ∙ rw e
+-- a step: the worker is read from its row
+module _ (m : Block) (w r : ℕ) (y : Row) (x : Worker) (e : y ≡ rowIn m w) (f : x ≡ workerOf y) (t : r ≡ firstOf (stepChecks m w x)) where
+  step-table : r ≡ firstOf (checksOf m (Ev.Step w))
+  step-table = t ∙ rw (f, e)
 
-    pub step-refused : (y : Block) → (r ≡ 0 → ⊥) → y ≡ m → left y (Refused r) ≡ applyOf m (Ev.Step w)
-    step-refused y n k = rw k (refused m (Ev.Step w) r step-table n)
+  pub step-refused : (z : Block) → (r ≡ 0 → ⊥) → z ≡ m → left z (Refused r) ≡ applyOf m (Ev.Step w)
+  step-refused z n k = rw k (refused m (Ev.Step w) r step-table n)
 
-    pub step-done : (d : Left) → r ≡ 0 → d ≡ stepOf m w x → d ≡ applyOf m (Ev.Step w)
-    step-done d z k = accepted m (Ev.Step w) r d step-table z (k ∙ rw e)
+  pub step-done : (d : Left) → r ≡ 0 → d ≡ stepOf m w (workerOf y) → d ≡ applyOf m (Ev.Step w)
+  step-done d z k = accepted m (Ev.Step w) r d step-table z (k ∙ rw e)
 
 -- write-backs
 module _ (m : Block) (a r : ℕ) where

@@ -23,7 +23,10 @@ use Rattle.steps.specs.declared.ReadNext.{ReadNext}
 use Rattle.steps.specs.declared.ReadPlan.{ReadPlan}
 use Rattle.steps.specs.Plan.{planned, readPlan, readClearPlan}
 use Rattle.steps.specs.Operation.{planOf, install, installClear, persistClear, decide, settle, settleClear, swap, swapClear, storeFree}
+use Rattle.codes.specs.declared.Row.{Row}
 use Rattle.codes.specs.Place.{placeEntry}
+use Rattle.codes.specs.Row.{placeIn, ownIn, isWorking, workerOf}
+use Rattle.codes.specs.Round.{working-row}
 use Rattle.memory.specs.declared.Copy.{Copy}
 use Rattle.memory.specs.declared.Copy.the-variants.{Cached}
 use Rattle.memory.specs.Block.{Block}
@@ -160,5 +163,19 @@ module _ (m : Block) (w a : ℕ) (s : Sort) (q : ReadPlan) (r : Left) (e : s ≡
   unfolding readClearStep
   read-clear-law v f h = h ∙ rw (f, e)
 
+-- the worker runs no operation; it does
 pub step-by : (m : Block) (w : ℕ) (x y : Worker) (r : Left) → x ≡ y → r ≡ stepOf m w y → r ≡ stepOf m w x
 step-by m w x y r e h = rw e h
+
+pub step-never : (m : Block) (w : ℕ) (x y : Worker) (r : Left) → x ≡ y → isWorking x ≡ false → isWorking y ≡ true → r ≡ stepOf m w x
+step-never m w x y r e h k = let z : true ≡ false = sym k ∙ (ap isWorking (sym e) ∙ h) in let n : _≡_ {A = ℕ} 0 1 = cc in absurd (omega arith)
+
+module _ (m : Block) (w : ℕ) (r : Row) (t : Bool) (f : t ≡ isWorking (workerOf r)) where
+  pub step-works : (o : Own) (p : Place) (z : Left) → t ≡ true → o ≡ ownIn r → p ≡ placeIn r → z ≡ workStep m w o (r .job) p → z ≡ stepOf m w (workerOf r)
+  step-works o p z e g h k = rw (working-row r (sym f ∙ e), ← g, ← h) k
+
+  pub step-rests : (x : Worker) (z : Left) → x ≡ workerOf r → z ≡ stepOf m w x → z ≡ stepOf m w (workerOf r)
+  step-rests x z e k = rw (← e) k
+
+  pub rests : (x : Worker) → t ≡ false → x ≡ workerOf r → isWorking x ≡ false
+  rests x e g = ap isWorking g ∙ (sym f ∙ e)

@@ -2,6 +2,7 @@
 use crate::recovery::crash;
 use crate::recovery::recover;
 use crate::work::step;
+use codes::worker_of;
 use events::Answer;
 use events::Event;
 use events::add;
@@ -27,6 +28,7 @@ use memory::back_word;
 use memory::find_entry;
 use memory::put_worker;
 use memory::read_recovery;
+use memory::read_row;
 use memory::read_sizes;
 use memory::read_worker;
 use steps::Entry;
@@ -116,8 +118,8 @@ fn apply_read(m: &mut Memory, w: u64, a: u64) -> Answer
 fn apply_step(m: &mut Memory, w: u64) -> Answer
     ensures { λ r. ⌜ left (now (m .exit)) r ≡ applyOf (now (m .entry)) (Event.Step w) ⌝ }
 {
-    let x = read_worker(m, w);
-    let r = refuse_step(m, w, x);
+    let x = read_row(m, w);
+    let r = refuse_step(m, w, worker_of(x));
     if r == 0 {
         return step(m, w, x);
     }

@@ -1,4 +1,9 @@
 // Record 07: one step of a worker.
+use codes::Row;
+use codes::is_working;
+use codes::own_in;
+use codes::place_in;
+use codes::worker_of;
 use events::Answer;
 use events::owner_of;
 use memory::Copy;
@@ -39,7 +44,9 @@ use steps::swap;
 use steps::swap_clear;
 use word::Status;
 ghost use mathlib.Core.Path.{_≡_};
+ghost use mathlib.Core.Bool.{false};
 ghost use lib.Dec.{eqb};
+ghost use Rattle.codes.specs.Row.{isWorking, workerOf};
 ghost use Rattle.machine.specs.Step as S;
 ghost use Rattle.events.specs.Left.{left};
 
@@ -256,15 +263,26 @@ fn read_clear_step(m: &mut Memory, w: u64, a: u64, v: u64) -> Answer
     read_out(m, w, a, read_clear_plan(a, v, s))
 }
 
-// A step of worker w, which is x.
-pub(crate) fn step(m: &mut Memory, w: u64, x: Worker) -> Answer
+// A step of a worker that runs no operation.
+fn rest_step(m: &mut Memory, w: u64, x: Worker) -> Answer
+    requires { ⌜ isWorking x ≡ false ⌝ }
     ensures { λ r. ⌜ left (now (m .exit)) r ≡ S.stepOf (now (m .entry)) w x ⌝ }
 {
     match x {
         Worker::Idle => Answer::Refused(16),
         Worker::Building(_) => Answer::Refused(16),
-        Worker::Working(o, e, p) => work_step(m, w, o, e, p),
+        Worker::Working(_, _, _) => Answer::Refused(16),
         Worker::Reading(a) => read_step(m, w, a),
         Worker::ReadClear(a, v) => read_clear_step(m, w, a, v),
     }
+}
+
+// A step of worker w, whose row is r. The place is read from the row where it is matched next, so that the compiler makes one choice of the two.
+pub(crate) fn step(m: &mut Memory, w: u64, r: Row) -> Answer
+    ensures { λ x. ⌜ left (now (m .exit)) x ≡ S.stepOf (now (m .entry)) w (workerOf r) ⌝ }
+{
+    if is_working(r) {
+        return work_step(m, w, own_in(r), r.job, place_in(r));
+    }
+    rest_step(m, w, worker_of(r))
 }

@@ -42,12 +42,15 @@ module _ (w : ℕ) where
       (row-first h, row-slot h 1 (omega arith), row-slot h 2 (omega arith), row-slot h 3 (omega arith), row-slot h 4 (omega arith), row-slot h 5 (omega arith))
       refl
 
-  pub worker-read : (m : Block) (r : Row) (x : Worker) → w < 8 → r ≡ rowFrom m (576 + 8 * w) → x ≡ workerOf r → x ≡ workerIn m w
-  worker-read m r x h e f = f ∙ ap workerOf (e ∙ row-here h m)
+  pub row-read : (m : Block) (r : Row) → w < 8 → r ≡ rowFrom m (576 + 8 * w) → r ≡ rowIn m w
+  row-read m r h e = e ∙ row-here h m
 
-  pub worker-none : (m : Block) → 8 ≤ w → Idle ≡ workerIn m w
-  unfolding workerOf at
-  worker-none m h = rw (no-slot h 0) refl
+  pub row-none : (m : Block) → 8 ≤ w → record { tag = 0; own = 0; job = 0; place = 0; entry = 0; noted = 0 } ≡ rowIn m w
+  unfolding at
+  row-none m h = rw (no-slot h 0, no-slot h 1, no-slot h 2, no-slot h 3, no-slot h 4, no-slot h 5) refl
+
+  pub worker-read : (m : Block) (r : Row) (x : Worker) → r ≡ rowIn m w → x ≡ workerOf r → x ≡ workerIn m w
+  worker-read m r x e f = f ∙ ap workerOf e
 
   pub worker-put : (m y : Block) (x : Worker) (r : Row) → w < 8 → r ≡ rowOf x → y ≡ rowStored m (576 + 8 * w) r → y ≡ putWorker m w x
   worker-put m y x r h e f = f ∙ (stored-here h m r ∙ ap (putRow m w) e)

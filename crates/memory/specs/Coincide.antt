@@ -10,12 +10,13 @@ use Rattle.steps.specs.declared.Place.{Place}
 use Rattle.steps.specs.declared.Worker.{Worker}
 use Rattle.steps.specs.declared.Worker.the-variants.{Working}
 use Rattle.steps.specs.declared.RecoveryPlace.{RecoveryPlace}
+use Rattle.codes.specs.declared.Row.{Row}
 use Rattle.memory.specs.declared.Copy.{Copy}
 use Rattle.steps.specs.declared.Entry.{Entry}
 use Rattle.memory.specs.declared.Found.{Found}
 use Rattle.memory.specs.declared.Sizes.{Sizes}
 use Rattle.memory.specs.Block.{Block}
-use Rattle.memory.specs.Content.{wordIn, putWord, backWord, statusIn, putStatus, backStatus, countIn, putCount, entryIn, putEntry, clearBody, backBody, crashCopied, workerIn, putWorker, idled, recoveryIn, putRecovery}
+use Rattle.memory.specs.Content.{wordIn, putWord, backWord, statusIn, putStatus, backStatus, countIn, putCount, entryIn, putEntry, clearBody, backBody, crashCopied, rowIn, workerIn, putWorker, idled, recoveryIn, putRecovery}
 use Rattle.memory.specs.Fresh.{sizesIn, begun, freshOf}
 use Rattle.memory.specs.Value.{entryFor, valueOf}
 
@@ -34,6 +35,9 @@ read-entry m c d i r s = coincide
 
 pub find-entry : (m : Block) (c : Copy) (d a : ℕ) (r s : Found) → r ≡ entryFor c m d a → s ≡ entryFor c m d a → r ≡ s
 find-entry m c d a r s = coincide
+
+pub read-row : (m : Block) (w : ℕ) (r s : Row) → r ≡ rowIn m w → s ≡ rowIn m w → r ≡ s
+read-row m w r s = coincide
 
 pub read-worker : (m : Block) (w : ℕ) (r s : Worker) → r ≡ workerIn m w → s ≡ workerIn m w → r ≡ s
 read-worker m w r s = coincide

@@ -30,6 +30,7 @@ pub use workers::put_recovery;
 pub use workers::put_worker;
 pub use workers::put_working;
 pub use workers::read_recovery;
+pub use workers::read_row;
 pub use workers::read_worker;
 
 // The block; slot 646 is nowhere.

@@ -15,7 +15,7 @@ use steps::RecoveryPlace;
 use steps::Worker;
 ghost use mathlib.Core.Path.{_≡_};
 ghost use Prim.Native.Nat.{_≤_};
-ghost use Rattle.memory.specs.Content.{workerIn, putWorker, rowFrom, rowStored, idled, recoveryIn, putRecovery};
+ghost use Rattle.memory.specs.Content.{rowIn, workerIn, putWorker, rowFrom, rowStored, idled, recoveryIn, putRecovery};
 
 // The row whose first number is at slot i. One test of the place serves all six numbers, here and in put_row.
 fn row_from(m: &Memory, i: usize) -> Row
@@ -44,14 +44,27 @@ fn put_row(m: &mut Memory, i: usize, r: Row)
     save(m, i + 5, r.noted);
 }
 
+// The row of worker w; zeros, which are an idle worker's, where there is none.
+pub fn read_row(m: &Memory, w: u64) -> Row
+    ensures { λ r. ⌜ r ≡ rowIn (now (m .entry)) w ⌝ }
+{
+    if w < 8 {
+        return row_from(m, 576 + 8 * w as usize);
+    }
+    Row {
+        tag: 0,
+        own: 0,
+        job: 0,
+        place: 0,
+        entry: 0,
+        noted: 0,
+    }
+}
+
 pub fn read_worker(m: &Memory, w: u64) -> Worker
     ensures { λ r. ⌜ r ≡ workerIn (now (m .entry)) w ⌝ }
 {
-    if w < 8 {
-        let r = row_from(m, 576 + 8 * w as usize);
-        return worker_of(r);
-    }
-    Worker::Idle
+    worker_of(read_row(m, w))
 }
 
 pub fn put_worker(m: &mut Memory, w: u64, x: Worker)

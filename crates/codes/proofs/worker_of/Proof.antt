@@ -3,8 +3,8 @@ use borrow.Author.Needs.{needs}
 use Rattle.codes.proofs.worker_of.Statement.{statement}
 use Rattle.codes.proofs.worker_of.Tie as tie
 
-place-of-requires : tie.Need-place-of-requires
-place-of-requires c κs = search needs
+place-in-requires : tie.Need-place-in-requires
+place-in-requires c κs = search needs
 
 returns : tie.Need-returns
 returns c = search (needs, tag-building)
@@ -27,4 +27,4 @@ returns-6 c = search (needs, tag-other)
 pub worker-of-spec : {M : Type 1} → statement M
 worker-of-spec =
     tie.close
-    (tie.spec place-of-requires returns returns-2 returns-3 returns-4 returns-5 returns-6)
+    (tie.spec place-in-requires returns returns-2 returns-3 returns-4 returns-5 returns-6)

@@ -3,8 +3,8 @@ use borrow.Author.Needs.{needs}
 use Rattle.answers.proofs.line.put_line.Statement.{statement}
 use Rattle.answers.proofs.line.put_line.Tie as tie
 
-put-decimal-requires : tie.Need-put-decimal-requires
-put-decimal-requires c κs = search needs
+put-count-requires : tie.Need-put-count-requires
+put-count-requires c κs = search needs
 
 put-answer-requires : tie.Need-put-answer-requires
 put-answer-requires c κs = search needs
@@ -21,4 +21,4 @@ returns c = search (needs, line)
 pub put-line-spec : {M : Type 1} → statement M
 put-line-spec =
     tie.close
-    (tie.spec put-decimal-requires put-answer-requires put-byte-requires same-length returns)
+    (tie.spec put-count-requires put-answer-requires put-byte-requires same-length returns)

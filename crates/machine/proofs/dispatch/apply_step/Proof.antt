@@ -3,8 +3,11 @@ use borrow.Author.Needs.{needs}
 use Rattle.machine.proofs.dispatch.apply_step.Statement.{statement}
 use Rattle.machine.proofs.dispatch.apply_step.Tie as tie
 
-read-worker-requires : tie.Need-read-worker-requires
-read-worker-requires c κs = search needs
+read-row-requires : tie.Need-read-row-requires
+read-row-requires c κs = search needs
+
+worker-of-requires : tie.Need-worker-of-requires
+worker-of-requires c κs = search needs
 
 refuse-step-requires : tie.Need-refuse-step-requires
 refuse-step-requires c κs = search needs
@@ -20,4 +23,4 @@ returns-2 c = search (needs, step-refused)
 
 pub apply-step-spec : {M : Type 1} → statement M
 apply-step-spec =
-    tie.close (tie.spec read-worker-requires refuse-step-requires step-requires returns returns-2)
+    tie.close (tie.spec read-row-requires worker-of-requires refuse-step-requires step-requires returns returns-2)

@@ -1,61 +1,41 @@
-use Rattle.machine.proofs.StepLaws.{step-by}
+use Rattle.machine.proofs.StepLaws.{step-works, step-rests, rests}
 use borrow.Author.Needs.{needs}
 use Rattle.machine.proofs.work.step.Statement.{statement}
 use Rattle.machine.proofs.work.step.Tie as tie
 
-enum-told : tie.Need-enum-told
-enum-told c = search needs
+is-working-requires : tie.Need-is-working-requires
+is-working-requires c κs = search needs
 
-enum-told-2 : tie.Need-enum-told-2
-enum-told-2 c = search needs
+own-in-requires : tie.Need-own-in-requires
+own-in-requires c κs = search needs
 
-enum-known-x : tie.Need-enum-known-x
-enum-known-x c = search needs
+place-in-requires : tie.Need-place-in-requires
+place-in-requires c κs = search needs
 
 work-step-requires : tie.Need-work-step-requires
 work-step-requires c κs = search needs
 
-enum-known-x-2 : tie.Need-enum-known-x-2
-enum-known-x-2 c = search needs
-
-read-step-requires : tie.Need-read-step-requires
-read-step-requires c κs = search needs
-
-enum-known-x-3 : tie.Need-enum-known-x-3
-enum-known-x-3 c = search needs
-
-read-clear-step-requires : tie.Need-read-clear-step-requires
-read-clear-step-requires c κs = search needs
-
 returns : tie.Need-returns
-returns c = search (needs, step-by)
+returns c = search (needs, step-works)
+
+worker-of-requires : tie.Need-worker-of-requires
+worker-of-requires c κs = search needs
+
+rest-step-requires : tie.Need-rest-step-requires
+rest-step-requires c κs = search (needs, rests)
 
 returns-2 : tie.Need-returns-2
-returns-2 c = search (needs, step-by)
-
-returns-3 : tie.Need-returns-3
-returns-3 c = search (needs, step-by)
-
-returns-4 : tie.Need-returns-4
-returns-4 c = search (needs, step-by)
-
-returns-5 : tie.Need-returns-5
-returns-5 c = search (needs, step-by)
+returns-2 c = search (needs, step-rests)
 
 pub step-spec : {M : Type 1} → statement M
 step-spec =
     tie.close
     (tie.spec
-    enum-told
-    enum-told-2
-    enum-known-x
+    is-working-requires
+    own-in-requires
+    place-in-requires
     work-step-requires
-    enum-known-x-2
-    read-step-requires
-    enum-known-x-3
-    read-clear-step-requires
     returns
-    returns-2
-    returns-3
-    returns-4
-    returns-5)
+    worker-of-requires
+    rest-step-requires
+    returns-2)
