@@ -40,13 +40,18 @@ command -v gcc >/dev/null 2>&1 || {
 }
 sh tests/model/build.sh || exit 1
 build/model/gen -n 5000000 1 >build/bench.schedule || exit 1
-# in turns, so that both meet the same moods of the machine
+# in turns, so that both meet the same moods of the machine: the best of each, and the middle one of the rounds' ratios
 ours=
 model=
-for round in 1 2 3 4 5 6 7 8 9 10 11 12; do
-    ours=$(least "$ours" "$(once build/bench.schedule target/bin/tick)")
-    model=$(least "$model" "$(once build/bench.schedule build/model/tick)")
+: >build/bench.ratios
+for round in 1 2 3 4 5 6 7 8 9 10 11 12 13 14 15 16 17 18 19 20 21; do
+    a=$(once build/bench.schedule target/bin/tick)
+    b=$(once build/bench.schedule build/model/tick)
+    ours=$(least "$ours" "$a")
+    model=$(least "$model" "$b")
+    awk "BEGIN { printf \"%.3f\\n\", $a / $b }" >>build/bench.ratios
 done
+middle=$(sort -n build/bench.ratios | sed -n 11p)
 target/bin/tick <build/bench.schedule >build/bench.ours
 build/model/tick <build/bench.schedule >build/bench.out
 cmp -s build/bench.out build/bench.ours || {
@@ -54,6 +59,6 @@ cmp -s build/bench.out build/bench.ours || {
     exit 1
 }
 records=$(($(wc -l <build/bench.out) - 1))
-echo "tick: $records records, $(tenths $((ours * 10 / records))) ns a record; the model in C, gcc -O2: $(tenths $((model * 10 / records))) ns; ratio $(awk "BEGIN { printf \"%.2f\", $ours / $model }")"
+echo "tick: $records records, $(tenths $((ours * 10 / records))) ns a record; the model in C, gcc -O2: $(tenths $((model * 10 / records))) ns; ratio $(awk "BEGIN { printf \"%.2f\", $ours / $model }") of the best, $middle in the middle of 21 rounds"
 
 rt staticlib image >build/staticlib.log 2>&1 && sh tests/model/build.sh && build/model/bench_images
