@@ -1,25 +1,27 @@
-# make demo: prove and build what the demonstration needs, and run it
-# make test: the whole gate; its last line is 'N passed, 0 failed'
+# Each target's line is what 'make help' shows.
 MAKEFLAGS += --no-print-directory
-# make soak FROM=1 TO=100000: as many random schedules as told, beside the model (after make test)
-# make bench: nanoseconds an event, and tick beside the model
-# make install PREFIX=/usr/local: the recovery for C and Fortran
-.PHONY: demo test fmt soak bench install
+.PHONY: help demo test check fmt soak bench install
 
-demo:
+help: ## these lines
+	@sed -n 's/^\([a-z]*\):.*## /  make \1\t/p' Makefile | expand -t 18
+
+demo: ## prove and build tick and trace, and show a power cut in the middle of a swap
 	@sh tests/demo.sh
 
-test:
+test: ## the whole gate, from nothing; the last line is 'N passed, 0 failed'
 	@sh tests/gate.sh
 
-soak:
-	@sh tests/model/build.sh && sh tests/model/compare.sh $(or $(FROM),1) $(or $(TO),100000)
+check: ## CRATE=name: the edit loop: prove one crate and what it stands on, quickly (not a verdict: make test is)
+	@rt dev $(or $(CRATE),$(error make check CRATE=name, one of those in crates.txt))
 
-bench:
-	@sh tests/bench.sh
-
-fmt:
+fmt: ## lay out every file
 	@rt fmt
 
-install:
+soak: ## FROM=1 TO=100000 JOBS=cores: random schedules and images beside the model, as many as told (after make test)
+	@sh tests/soak.sh '$(or $(FROM),1)' '$(or $(TO),100000)' $(JOBS)
+
+bench: ## nanoseconds an event; tick and an image's recovery beside the model
+	@sh tests/bench.sh
+
+install: ## PREFIX=/usr/local: the recovery for C and Fortran
 	@DESTDIR='$(DESTDIR)' sh tools/install.sh '$(or $(PREFIX),/usr/local)'
