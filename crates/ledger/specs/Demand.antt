@@ -15,7 +15,7 @@ use Rattle.ledger.specs.Answers
 use Rattle.ledger.specs.ReadCourse
 
 -- the sizes
-between : (x most : ℕ) → within x most ≡ true → (0 < x) × (x ≤ most)
+pub between : (x most : ℕ) → within x most ≡ true → (0 < x) × (x ≤ most)
 between x most e = let z = both _ _ e in (ltb-true 0 x (z .0), leb-true x most (z .1))
 
 module _ (n k w : ℕ) (nn : n ≤ 64) (kk : k ≤ 16) (ww : w ≤ 8) (kp : 0 < k) (es : List Event) where

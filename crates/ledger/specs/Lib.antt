@@ -45,3 +45,6 @@ pub mod Last
 pub mod Answers
 pub mod ReadCourse
 pub mod Demand
+pub mod Small
+pub mod SmallKept
+pub mod Passes
