@@ -48,3 +48,6 @@ pub mod Demand
 pub mod Small
 pub mod SmallKept
 pub mod Passes
+pub mod ImageValue
+pub mod Runtime
+pub mod RuntimeHolds

@@ -81,10 +81,10 @@ module _ (n k : ℕ) (nn : n ≤ 64) (kk : k ≤ 16) (m : Block) (f : Fits Persi
     abbrev b : Body
     b = bodyIn Persisted m d
 
-    count : countIn p ≡ length b
+    pub count : countIn p ≡ length b
     count = count-read Persisted m n k f d l ∙ sym (body-length Persisted m d)
 
-    entry : (i : ℕ) → i < length b → entryIn p i ≡ entryAt b i
+    pub entry : (i : ℕ) → i < length b → entryIn p i ≡ entryAt b i
     entry i q =
         let s = I .fits .body Persisted d .size in
         let c : i < C.countIn Persisted m d = rw (body-length Persisted m d) at q in
