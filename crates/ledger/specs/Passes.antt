@@ -27,7 +27,7 @@ use Rattle.image.specs.Check.{someBelow, badSizes, isBad, badStatus, badEntry, 
 use Rattle.image.specs.CheckLaws.{none-below, below-all}
 use Rattle.image.specs.Good.{good-back}
 use Rattle.image.specs.OfMemory.{imageOf, Fits, image-length, word-read, status-read, count-read, entry-read}
-use Rattle.ledger.specs.Statement.{bodyIn, memoryAt, ledger}
+use Rattle.ledger.specs.Statement.{bodyIn, memoryAt}
 use Rattle.ledger.specs.Update.{clash}
 use Rattle.ledger.specs.Cells.{cellOf, Body}
 use Rattle.ledger.specs.View.{view}
@@ -35,9 +35,9 @@ use Rattle.ledger.specs.Seen.{entryAt, addressAt, body-length, body-entr
 use Rattle.ledger.specs.Fits.{CellFits, EntryFits}
 use Rattle.ledger.specs.Meaning.{Has, at-has}
 use Rattle.ledger.specs.Invariant.{Invariant}
-use Rattle.ledger.specs.Moments as T
-use Rattle.ledger.specs.Operations.{both}
-use Rattle.ledger.specs.Demand.{between}
+use Rattle.ledger.specs.Instant.{inv}
+use Rattle.ledger.specs.Cond.{and-first, and-second}
+use Rattle.ledger.specs.Ranges.{ranges}
 use Rattle.ledger.specs.Small.{small-fits}
 use Rattle.ledger.specs.SmallKept.{always-small}
 
@@ -165,13 +165,13 @@ module _ (n k : ℕ) (nn : n ≤ 64) (kk : k ≤ 16) (m : Block) (f : Fits Persi
   })
 
 pub every-image-passes : EveryImagePasses
-unfolding T.At
 every-image-passes n k w e es i =
-    let a = both (within n 64) _ e in
-    let b = both (within k 16) (within w 8) (a .1) in
-    let nn = between n 64 (a .0) .1 in
-    let kk = between k 16 (b .0) .1 in
-    let ww = between w 8 (b .1) .1 in
-    let kp = between k 16 (b .0) .0 in
-    let I : Invariant n k (view (memoryAt n k w es i)) (ledger n k w es i) (T.inLedger n k w es i) (T.Differed n k w es i) (T.sent n k w es i) = T.at-every-moment n k w es nn kk ww kp i in
-    passes n k nn kk (memoryAt n k w es i) (small-fits Persisted (memoryAt n k w es i) (always-small n k w nn kk ww kp es i)) I (rw (a .0, b .0))
+    let r = ranges n k w e in
+    let f = small-fits Persisted (memoryAt n k w es i) (always-small n k w (r .words) (r .descriptors) (r .workers) (r .some) es i) in
+    passes n k (r .words) (r .descriptors) (memoryAt n k w es i) f (inv n k w (r .words) (r .descriptors) (r .workers) (r .some) es i) sizes
+  where
+    sizes : badSizes n k ≡ false
+    sizes =
+        let a = and-first (within n 64) (within k 16 && within w 8) e in
+        let b = and-first (within k 16) (within w 8) (and-second (within n 64) (within k 16 && within w 8) e) in
+        rw (a, b)

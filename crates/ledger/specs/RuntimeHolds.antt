@@ -26,12 +26,10 @@ use Rattle.image.specs.Cuts.{call-runs}
 use Rattle.image.specs.OfMemory.{imageOf}
 use Rattle.ledger.specs.Statement.{memoryAt, ledger}
 use Rattle.ledger.specs.Update.{clash}
-use Rattle.ledger.specs.View.{view}
-use Rattle.ledger.specs.Invariant.{Invariant}
 use Rattle.ledger.specs.History.{memory-whole}
-use Rattle.ledger.specs.Moments as T
-use Rattle.ledger.specs.Operations.{both}
-use Rattle.ledger.specs.Demand.{between}
+use Rattle.ledger.specs.Moments.{always}
+use Rattle.ledger.specs.Instant.{inv}
+use Rattle.ledger.specs.Ranges.{ranges}
 use Rattle.ledger.specs.Small.{small-fits}
 use Rattle.ledger.specs.SmallKept.{always-small}
 use Rattle.ledger.specs.Passes.{every-image-passes}
@@ -92,11 +90,10 @@ module _ (n k w : ℕ) (sizes : goodSizes n k w ≡ true) (nn : n ≤ 64) (kk : 
   accepted = every-image-passes n k w sizes es (length es)
 
   start-value : (a : ℕ) → a < n → valueIn n x a ≡ ledger n k w es (length es) a
-  unfolding T.At
   start-value a l =
       let i = length es in
-      let I : Invariant n k (view (memoryAt n k w es i)) (ledger n k w es i) (T.inLedger n k w es i) (T.Differed n k w es i) (T.sent n k w es i) = T.at-every-moment n k w es nn kk ww kp i in
-      image-value n k nn kk (memoryAt n k w es i) (small-fits Persisted (memoryAt n k w es i) (always-small n k w nn kk ww kp es i)) I a l ∙ T.always n k w es nn kk ww kp i a
+      image-value n k nn kk (memoryAt n k w es i) (small-fits Persisted (memoryAt n k w es i) (always-small n k w nn kk ww kp es i)) (inv n k w nn kk ww kp es i) a l
+      ∙ always n k w es nn kk ww kp i a
 
   module _ (ss : List ℕ) where
     still-accepted : imageRefusal n k (calls ss n k x) ≡ 0
@@ -116,5 +113,4 @@ module _ (n k w : ℕ) (sizes : goodSizes n k w ≡ true) (nn : n ≤ 64) (kk : 
   }
 
 pub every-history-recovers : EveryHistoryRecovers
-every-history-recovers n k w e es = let a = both _ _ e in let b = both _ _ (a .1) in
-    holds n k w e (between n 64 (a .0) .1) (between k 16 (b .0) .1) (between w 8 (b .1) .1) (between k 16 (b .0) .0) es
+every-history-recovers n k w e es = let r = ranges n k w e in holds n k w e (r .words) (r .descriptors) (r .workers) (r .some) es

@@ -35,18 +35,19 @@ use Rattle.machine.specs.Step.{seenIn, busyAt, workerAfter, planAt, workStep, r
 use Rattle.machine.specs.Recover.{placeAfter, recoveryPlanAt, recoveryStepAt, recoverOf}
 use Rattle.machine.specs.Refused.{all-numbered}
 use Rattle.machine.specs.Apply.{acted, unlessRefused, applyOf}
-use Rattle.ledger.specs.Statement.{memoryAt, ledger}
+use Rattle.ledger.specs.Statement.{memoryAt}
 use Rattle.ledger.specs.View.{cellsOf, view}
 use Rattle.ledger.specs.Seen.{block-sees}
 use Rattle.ledger.specs.Fits.{CellsFit}
 use Rattle.ledger.specs.PlanFits.{plan-fits, read-fits, read-clear-fits, recovery-fits}
 use Rattle.ledger.specs.Follow.{WorkerFits, or-no}
-use Rattle.ledger.specs.Invariant.{Recovery, Invariant}
+use Rattle.ledger.specs.Invariant.{Recovery}
 use Rattle.ledger.specs.History.{memory-next, memory-past, memory-whole, memory-sizes, worker-fits}
-use Rattle.ledger.specs.Moments as T
+use Rattle.ledger.specs.Instant.{inv}
+use Rattle.ledger.specs.Moments.{inLedger, Differed, sent}
 use Rattle.ledger.specs.Small.{Small, fresh-small, worker-small, place-small, performed-small, crash-small, cleared-small, added-small, removed-small}
 
-module _ (n k w : ℕ) (nn : n ≤ 64) (kk : k ≤ 16) (kp : 0 < k) (m : Block) (h : Whole m) (sizes : sizesIn m ≡ record { n = n; k = k; w = w }) (fit : CellsFit n k (cellsOf m))
+module _ (n k w : ℕ) (nn : n ≤ 64) (kk : k ≤ 16) (m : Block) (h : Whole m) (sizes : sizesIn m ≡ record { n = n; k = k; w = w }) (fit : CellsFit n k (cellsOf m))
     (workers : (v : ℕ) → WorkerFits n k (cellsOf m) (workerIn m v)) (place : (d t : ℕ) → recoveryIn m ≡ At d t → d < k) (s : Small m) where
   below-16 : (d : ℕ) → leb (sizesIn m .k) d ≡ false → d < 16
   below-16 d e = let z = leb-false (sizesIn m .k) d e in let y : sizesIn m .k ≡ k = ap (λ (x : Sizes). x .k) sizes in omega arith
@@ -100,13 +101,12 @@ module _ (n k w : ℕ) (nn : n ≤ 64) (kk : k ≤ 16) (kp : 0 < k) (m : Block) 
 
 module _ (n k w : ℕ) (nn : n ≤ 64) (kk : k ≤ 16) (ww : w ≤ 8) (kp : 0 < k) (es : List Event) where
   next-small : (i : ℕ) → Small (memoryAt n k w es i) → i < length es → Small (memoryAt n k w es (suc i))
-  unfolding T.At
   next-small i s l =
       let m = memoryAt n k w es i in
-      let I : Invariant n k (view m) (ledger n k w es i) (T.inLedger n k w es i) (T.Differed n k w es i) (T.sent n k w es i) = T.at-every-moment n k w es nn kk ww kp i in
+      let I = inv n k w nn kk ww kp es i in
       rw (memory-next n k w es i l)
-      (apply-small n k w nn kk kp m (memory-whole n k w es i) (memory-sizes n k w es i) (I .fits)
-      (λ v. worker-fits n k (cellsOf m) (T.inLedger n k w es i) (T.Differed n k w es i) (T.sent n k w es i) (workerIn m v) (I .know v))
+      (apply-small n k w nn kk m (memory-whole n k w es i) (memory-sizes n k w es i) (I .fits)
+      (λ v. worker-fits n k (cellsOf m) (inLedger n k w es i) (Differed n k w es i) (sent n k w es i) (workerIn m v) (I .know v))
       (λ d t e. subst (Recovery k (view m)) e (I .place) .below) s (getD es i Crash))
 
   -- at every moment
