@@ -45,3 +45,7 @@ pub mod Last
 pub mod Answers
 pub mod ReadCourse
 pub mod Demand
+pub mod OverBytes
+pub mod Lines
+pub mod Out
+pub mod Setup
