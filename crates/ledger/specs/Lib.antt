@@ -49,3 +49,5 @@ pub mod OverBytes
 pub mod Lines
 pub mod Out
 pub mod Setup
+pub mod ReadBegun
+pub mod Behind
