@@ -3,7 +3,6 @@ use mathlib.Core.Path.{_≡_, refl, sym, _∙_, ap, subst}
 use mathlib.Core.Bool.{Bool, true, false}
 use mathlib.Core.List.{List}
 use Prim.Native.Nat.{ℕ, _≤_, _<_}
-use lib.ListN.{length}
 use Rattle.word.specs.declared.Outcome.{Outcome}
 use Rattle.steps.specs.declared.Place.the-variants.{BackFree}
 use Rattle.steps.specs.declared.Own.{Own}

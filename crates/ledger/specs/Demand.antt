@@ -4,7 +4,7 @@ use mathlib.Core.Bool.{true}
 use mathlib.Core.List.{List}
 use Prim.Native.Nat.{ℕ, _≤_, _<_}
 use borrow.Author.Tests.{ltb-true, leb-true}
-use Rattle.memory.specs.Fresh.{within}
+use Rattle.memory.specs.Fresh.{within, goodSizes}
 use Rattle.events.specs.declared.Event.{Event}
 use Rattle.ledger.specs.Statement.{Holds, Demand3}
 use Rattle.ledger.specs.Clauses
@@ -17,6 +17,9 @@ use Rattle.ledger.specs.ReadCourse
 -- the sizes
 between : (x most : ℕ) → within x most ≡ true → (0 < x) × (x ≤ most)
 between x most e = let z = both _ _ e in (ltb-true 0 x (z .0), leb-true x most (z .1))
+
+pub ranges : (n k w : ℕ) → goodSizes n k w ≡ true → (n ≤ 64) × (k ≤ 16) × (w ≤ 8) × (0 < k)
+ranges n k w e = let a = both _ _ e in let b = both _ _ (a .1) in (between n 64 (a .0) .1, between k 16 (b .0) .1, between w 8 (b .1) .1, between k 16 (b .0) .0)
 
 module _ (n k w : ℕ) (nn : n ≤ 64) (kk : k ≤ 16) (ww : w ≤ 8) (kp : 0 < k) (es : List Event) where
   holds : Holds n k w es
@@ -36,5 +39,4 @@ module _ (n k w : ℕ) (nn : n ≤ 64) (kk : k ≤ 16) (ww : w ≤ 8) (kp : 0 < 
   }
 
 pub demand-three : Demand3
-demand-three n k w e es = let a = both _ _ e in let b = both _ _ (a .1) in
-    holds n k w (between n 64 (a .0) .1) (between k 16 (b .0) .1) (between w 8 (b .1) .1) (between k 16 (b .0) .0) es
+demand-three n k w e es = let r = ranges n k w e in holds n k w (r .0) (r .1) (r .2) (r .3) es

@@ -51,3 +51,6 @@ pub mod Out
 pub mod Setup
 pub mod ReadBegun
 pub mod Behind
+pub mod Places
+pub mod LastLine
+pub mod BytesDemand

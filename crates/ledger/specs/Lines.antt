@@ -1,14 +1,14 @@
 -- A text and its lines: the lines put together are the text again, and lines that end with their only newline come apart as they were. A record's line and the last line are such lines; and the letter
 -- of a line tells its answer.
-use mathlib.Core.Path.{_≡_, refl, sym, _∙_, ap}
+use mathlib.Core.Path.{_≡_, refl, _∙_, ap}
 use mathlib.Core.Logic.{_≢_}
 use mathlib.Core.Bool.{Bool, true, false, cond, _&&_}
 use mathlib.Core.List.{List, [], _∷_, _++_, flatten, append-assoc}
-use Prim.Native.Nat.{ℕ, zero, suc, _≤_, _<_}
+use Prim.Native.Nat.{ℕ, _≤_, _<_}
 use native.Mathlib.Omega.{arith}
 use lib.Dec.{eqb, leb}
 use lib.ListN.{length, getD}
-use borrow.Author.Tests.{eqb-true, ne-eqb, leb-true}
+use borrow.Author.Tests.{ne-eqb, leb-true}
 use Rattle.word.specs.declared.Outcome.{Outcome}
 use Rattle.word.specs.declared.Outcome.the-variants.{Succeeded, Failed}
 use Rattle.events.specs.declared.Answer.{Answer}
@@ -120,7 +120,7 @@ letter-after (b ∷ x) y e =
     let l : 48 ≤ b = leb-true _ _ (z .0) in
     rw (ne-eqb b 32 (λ q. omega arith)) (letter-after x y (both (leb b 57) (onlyDigits x) (z .1) .1))
 
-abbrev letterOf : Answer → ℕ
+abbrev pub letterOf : Answer → ℕ
 letterOf r = getD (lettersOf r) 0 0
 
 letter-first : (r : Answer) (y : List ℕ) → getD (lettersOf r ++ y) 0 0 ≡ letterOf r

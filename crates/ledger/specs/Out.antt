@@ -1,22 +1,21 @@
 -- What `tick` writes, record by record: the setup's line, then a line for each event of the schedule, then the refusal that ended reading, if one did, and the last line of the memory after the events.
 use mathlib.Core.Path.{_≡_, refl, sym, _∙_, ap}
 use mathlib.Core.Bool.{Bool, true, false, cond}
-use mathlib.Core.List.{List, [], _∷_, _++_, flatten, append-nil, append-assoc}
-use Prim.Native.Nat.{ℕ, zero, suc, min, _+_, _-_, _^_, _≤_, _<_}
+use mathlib.Core.List.{List, [], _∷_, _++_, flatten, append-nil}
+use Prim.Native.Nat.{ℕ, zero, suc, _+_, _-_, _^_, _≤_, _<_}
 use native.Mathlib.Omega.{arith}
 use lib.Dec.{eqb}
 use lib.ListN.{length, drop, length-drop}
 use borrow.Author.Tests.{eqb-true, eqb-false}
-use Rattle.memory.specs.declared.Sizes.{Sizes}
 use Rattle.memory.specs.Block.{Block}
-use Rattle.memory.specs.Fresh.{zeros, goodSizes, freshBlock, freshOf}
+use Rattle.memory.specs.Fresh.{zeros, freshBlock, freshOf}
 use Rattle.events.specs.declared.Event.{Event}
 use Rattle.events.specs.declared.Answer.the-variants.{Ok, Refused}
-use Rattle.machine.specs.Apply.{applyOf, Run, afterOf}
+use Rattle.machine.specs.Apply.{applyOf, afterOf}
 use Rattle.schedule.specs.declared.Head.{Head}
 use Rattle.schedule.specs.declared.Head.the-variants.{Record, Unknown, Short, End}
 use Rattle.schedule.specs.Record.{headOf, bodyOf}
-use Rattle.schedule.specs.Content.{eventOf, setupOf}
+use Rattle.schedule.specs.Content.{eventOf}
 use Rattle.schedule.specs.Laws.{short-says, end-says}
 use Rattle.answers.specs.Line.{lineOf, lastLine}
 use Rattle.play.specs.declared.Stage.{Stage}
@@ -24,7 +23,7 @@ use Rattle.play.specs.declared.Stage.the-variants.{First, At, Over}
 use Rattle.play.specs.Tick.{numberAfter, numberIn, begunIn, Turn, turn, refusedTurn, setupTurn, recordTurn, Played, playOf, lastIf, closing, outOf, tickOf}
 use Rattle.play.specs.Split.{andThen, turnPlayed, headFor, then-rests, zero-rests, over-rests, record-goes, unknown-ends, short-rests, end-rests, none-left, front}
 use Rattle.play.specs.Pieces.{out-on}
-use Rattle.ledger.specs.OverBytes.{GoodSetup, Schedule, ends, readBy, readOf, scheduleOf, eventsOf, numberOf, answerLines, refusalLine}
+use Rattle.ledger.specs.OverBytes.{GoodSetup, Schedule, ends, readBy, readOf, scheduleOf, numberOf, answerLines, refusalLine}
 
 -- what is written from a play on
 abbrev pub onward : List ℕ → Played → List ℕ

@@ -101,15 +101,15 @@ module _ (x : List ℕ) (n k w : ℕ) where
   es = eventsOf x
 
   -- the ledger after all the records
-  abbrev pub final : ℕ → ℕ
-  final = ledger n k w es (length es)
+  abbrev pub ledgerAfter : ℕ → ℕ
+  ledgerAfter = ledger n k w es (length es)
 
   -- all the lines: the setup is record 0, event i is record i + 1
   abbrev pub written : List (List ℕ)
   written =
       lineOf 0 Ok ∷ answerLines 1 (afterOf (freshBlock n k w) es .answers)
       ++ refusalLine (suc (length es)) (scheduleOf x .refusal)
-      ++ ledgerLine n final ∷ []
+      ++ ledgerLine n ledgerAfter ∷ []
 
   -- line j answers an operation: its record is event i, a step of worker v, answered o; v submitted that operation at event s for d, and it still runs when event i comes
   pub record AnswersOperation (j : ℕ) (o : Outcome) : Type 0 where
@@ -133,6 +133,21 @@ module _ (x : List ℕ) (n k w : ℕ) where
     pub begun : Happens n k w es s (Read v a) Ok
     pub runs : Runs n k w es v s i
 
+  -- S on line j: that operation has its instant, event t, between submission and answer, with the body that was submitted
+  abbrev pub SuccessAt : ℕ → Type 0
+  SuccessAt j = (q : AnswersOperation j Succeeded) × (t : ℕ) × (q .s < t) × (t < q .i) × (enters n k w es t (q .d) ≡ true) × AsSubmitted n k w es (q .s) t (q .d)
+
+  -- F on line j: it has none; and at moment t, from submission to answer, the ledger differed from the expected value of its entry e
+  abbrev pub FailureAt : ℕ → Type 0
+  FailureAt j =
+      (q : AnswersOperation j Failed) × ((t : ℕ) → q .s ≤ t → t ≤ q .i → enters n k w es t (q .d) ≡ false)
+      × (t : ℕ) × (q .s < t) × (t ≤ q .i) × (e : Entry) × Has n k w es (q .s) (q .d) e × (ledger n k w es t (e .address) ≢ e .expected)
+
+  -- V on line j: it shows the ledger's value of that address at moment t, from the read's beginning to its answer
+  abbrev pub ReadAt : ℕ → Type 0
+  ReadAt j =
+      (q : AnswersRead j) × (t : ℕ) × (q .s < t) × (t ≤ q .i) × (ledger n k w es t (q .a) ≡ q .y) × (lineAt x j ≡ lineOf (numberOf j) (Shows (ledger n k w es t (q .a))))
+
   pub record BytesHold : Type 0 where
     -- the whole output, byte by byte and line by line
     pub output : tickOf x ≡ flatten written
@@ -140,19 +155,13 @@ module _ (x : List ℕ) (n k w : ℕ) where
     -- the line of the record of event i is its number and what it was answered
     pub line : (i : ℕ) (e : Event) (r : Answer) → Happens n k w es i e r → lineAt x (suc i) ≡ lineOf (numberOf (suc i)) r
     -- the last line is = and the ledger's values after the records
-    pub last : lineAt x (length (linesOf (tickOf x)) - 1) ≡ ledgerLine n final
+    pub last : lineAt x (length (linesOf (tickOf x)) - 1) ≡ ledgerLine n ledgerAfter
     -- demand 3 of the events
     pub holds : Holds n k w es
-    -- each line S (83): the operation that it answers has its instant, event t, between submission and answer, with the body that was submitted
-    pub success : (j : ℕ) → letterIn (lineAt x j) ≡ 83
-        → (q : AnswersOperation j Succeeded) × (t : ℕ) × (q .s < t) × (t < q .i) × (enters n k w es t (q .d) ≡ true) × AsSubmitted n k w es (q .s) t (q .d)
-    -- each line F (70): it has none; and at moment t, from submission to answer, the ledger differed from one of its expected values
-    pub failure : (j : ℕ) → letterIn (lineAt x j) ≡ 70
-        → (q : AnswersOperation j Failed) × ((t : ℕ) → q .s ≤ t → t ≤ q .i → enters n k w es t (q .d) ≡ false)
-        × (t : ℕ) × (q .s < t) × (t ≤ q .i) × (e : Entry) × Has n k w es (q .s) (q .d) e × (ledger n k w es t (e .address) ≢ e .expected)
-    -- each line V (86) shows the ledger's value of the address at moment t, from the read's beginning to its answer
-    pub read : (j : ℕ) → letterIn (lineAt x j) ≡ 86
-        → (q : AnswersRead j) × (t : ℕ) × (q .s < t) × (t ≤ q .i) × (ledger n k w es t (q .a) ≡ q .y) × (lineAt x j ≡ lineOf (numberOf j) (Shows (ledger n k w es t (q .a))))
+    -- each line with the letter S (83), F (70) or V (86) satisfies the clauses for the record of that number
+    pub success : (j : ℕ) → letterIn (lineAt x j) ≡ 83 → SuccessAt j
+    pub failure : (j : ℕ) → letterIn (lineAt x j) ≡ 70 → FailureAt j
+    pub read : (j : ℕ) → letterIn (lineAt x j) ≡ 86 → ReadAt j
 
 -- FOR EVERY BYTE STRING with a good setup
 abbrev pub OverBytes : Type 0

@@ -1,7 +1,6 @@
 -- What a turn does to a worker that is on a read: only an accepted 06 begins one, and what ends leaves its worker idle. So a worker that is on a read began it, and it has not ended since.
 use mathlib.Core.Path.{_≡_, refl, sym, _∙_, ap, subst}
 use mathlib.Core.Logic.{_⊎_, inl, inr, ⊎-elim}
-use mathlib.Core.Bool.{Bool, true, false}
 use mathlib.Core.List.{List}
 use Prim.Native.Nat.{ℕ, zero, suc, _≤_, _<_}
 use native.Mathlib.Omega.{arith}
@@ -22,13 +21,13 @@ use Rattle.steps.specs.Operation.{planOf}
 use Rattle.memory.specs.Block.{Block}
 use Rattle.memory.specs.Content.{workerIn}
 use Rattle.events.specs.declared.Event.{Event}
-use Rattle.events.specs.declared.Event.the-variants.{Read, Step, Crash}
+use Rattle.events.specs.declared.Event.the-variants.{Read, Step}
 use Rattle.events.specs.declared.Answer as A
-use Rattle.events.specs.declared.Answer.the-variants.{Ok, Opened, Moved, Helping, Waits, Answered, Shows, Recovering, Recovered, Refused}
+use Rattle.events.specs.declared.Answer.the-variants.{Ok, Shows}
 use Rattle.events.specs.Build.{ownerOf}
-use Rattle.machine.specs.Step.{workerAfter, answerOf, readAfter, readAnswer}
+use Rattle.machine.specs.Step.{workerAfter, readAfter}
 use Rattle.ledger.specs.Statement.{memoryAt, Happens, Ends, Runs}
-use Rattle.ledger.specs.Update.{clash, upd, upd-if, upd-same}
+use Rattle.ledger.specs.Update.{clash, upd, upd-if}
 use Rattle.ledger.specs.Cells.{State}
 use Rattle.ledger.specs.View.{view}
 use Rattle.ledger.specs.ViewCrash.{view-fresh}

@@ -1,24 +1,22 @@
 -- The setup: a good one is the byte 00, then n, k and w, a byte each, all in their ranges, whatever follows; and without a good one the output is the setup's refusal alone, with no last line.
 use mathlib.Core.Path.{_≡_, refl, sym, _∙_, ap}
-use mathlib.Core.Bool.{Bool, true, false, cond}
+use mathlib.Core.Bool.{Bool, true, false}
 use mathlib.Core.List.{List, [], _∷_, _++_, append-nil}
-use Prim.Native.Nat.{ℕ, suc, _+_, _≤_}
+use Prim.Native.Nat.{ℕ}
 use native.Mathlib.Omega.{arith}
-use lib.Dec.{eqb}
 use lib.ListN.{length, drop}
 use borrow.Author.Tests.{eqb-true, le-leb}
 use Rattle.memory.specs.declared.Sizes.{Sizes}
-use Rattle.memory.specs.Block.{Block}
 use Rattle.memory.specs.Fresh.{zeros, goodSizes, freshOf}
 use Rattle.events.specs.declared.Answer.the-variants.{Refused}
 use Rattle.schedule.specs.declared.Head.{Head}
 use Rattle.schedule.specs.declared.Head.the-variants.{Record, Unknown, Short, End}
 use Rattle.schedule.specs.Record.{lengthOf, known, after, headOf, bodyOf}
 use Rattle.schedule.specs.Content.{setupOf}
-use Rattle.schedule.specs.Laws.{Stands, record-says, stands-record}
+use Rattle.schedule.specs.Laws.{record-says, stands-record}
 use Rattle.answers.specs.Line.{lineOf}
 use Rattle.play.specs.declared.Stage.the-variants.{First, Over}
-use Rattle.play.specs.Tick.{Turn, turn, setupTurn, recordTurn, outOf, tickOf}
+use Rattle.play.specs.Tick.{Turn, turn, setupTurn, tickOf}
 use Rattle.play.specs.Split.{turnPlayed}
 use Rattle.ledger.specs.OverBytes.{GoodSetup, setupRefusal, NoSetup}
 use Rattle.ledger.specs.Out.{onward, out-record, out-over, out-unknown, out-short, out-end}
