@@ -1,5 +1,6 @@
--- Demand 3 over bytes: for every byte string with a good setup, `tick` writes a line for each record and a last line; the last line is the ledger's values, and each line
--- S, F or V satisfies the clauses of `Holds` for the record of that number. To be read with Statement.antt: `OverBytes` is all of it, and BytesDemand.antt the proof.
+-- Demand 3 over bytes: for every byte string with a good setup, `tick` writes a line for each record and a last line; the last line is the ledger's values, and each line S, F or V satisfies the clauses
+-- of `Holds` for the record of that number. To be read with Statement.antt. `OverBytes` is all of it (proved in BytesDemand.antt), with `NoSetup` for every other byte string (Setup.antt).
+-- A byte is any number here: that it is below 256 is nowhere needed.
 use mathlib.Core.Path.{_≡_}
 use mathlib.Core.Logic.{_≢_}
 use mathlib.Core.Bool.{true, false, cond}
@@ -104,7 +105,7 @@ module _ (x : List ℕ) (n k w : ℕ) where
   abbrev pub ledgerAfter : ℕ → ℕ
   ledgerAfter = ledger n k w es (length es)
 
-  -- all the lines: the setup is record 0, event i is record i + 1
+  -- all the lines: the setup's, which is record 0; those of the events, of which event i is record i + 1; the refusal that ends reading, if one does; the last
   abbrev pub written : List (List ℕ)
   written =
       lineOf 0 Ok ∷ answerLines 1 (afterOf (freshBlock n k w) es .answers)

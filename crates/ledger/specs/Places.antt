@@ -2,7 +2,7 @@
 use mathlib.Core.Path.{_≡_, refl, sym, _∙_, ap}
 use mathlib.Core.Logic.{_≢_}
 use mathlib.Core.List.{List, [], _∷_, _++_, append-assoc}
-use Prim.Native.Nat.{ℕ, zero, suc, _+_, _-_, _<_}
+use Prim.Native.Nat.{ℕ, zero, suc, _+_, _-_, _^_, _<_}
 use native.Mathlib.Omega.{arith}
 use native.Mathlib.Decide.{decLt}
 use lib.ListN.{length, getD, take, length-append, List·getD-append}
@@ -16,6 +16,10 @@ use Rattle.machine.specs.Apply.{applyOf, afterOf}
 use Rattle.answers.specs.Line.{lineOf}
 use Rattle.ledger.specs.OverBytes.{letterIn, numberOf, answerLines, refusalLine, ledgerLine}
 use Rattle.ledger.specs.Lines.{AllLines, all-append, record-line, last-line, letter-is, last-letter}
+
+-- the number on a line is its place, up to 2^64 - 1
+pub number-is : (j : ℕ) → j < 2 ^ 64 → numberOf j ≡ j
+number-is j l = omega arith
 
 -- the answers to a list of events
 pub answers-count : (m : Block) (es : List Event) → length (afterOf m es .answers) ≡ length es
