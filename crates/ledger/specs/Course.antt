@@ -21,9 +21,9 @@ use Rattle.steps.specs.Operation.{planOf}
 use Rattle.events.specs.declared.Event.{Event}
 use Rattle.events.specs.declared.Event.the-variants.{Submit, Step, Crash}
 use Rattle.events.specs.declared.Answer as A
-use Rattle.events.specs.declared.Answer.the-variants.{Ok, Answered, Shows}
+use Rattle.events.specs.declared.Answer.the-variants.{Ok, Opened, Moved, Helping, Waits, Answered, Shows, Recovering, Recovered, Refused}
 use Rattle.events.specs.Build.{ownerOf}
-use Rattle.machine.specs.Step.{workerAfter, answerOf, readAfter}
+use Rattle.machine.specs.Step.{workerAfter, answerOf, readAfter, readAnswer}
 use Rattle.ledger.specs.Update.{clash, upd, upd-if, upd-same}
 use Rattle.ledger.specs.Cells.{State}
 use Rattle.ledger.specs.Machine.{Turn, refused, opens, adds, removes, submits, discards, begins, works, reads, clears, backs-word, backs-status, backs-body, crashes, recovers}
@@ -67,20 +67,81 @@ read-runs-none a (Meet e) d h = clash (cc)
 read-runs-none a (Clear y) d h = clash (cc)
 read-runs-none a (Value y) d h = clash (cc)
 
--- an answer leaves it idle
-step-answered : (o : Own) (e : ℕ) (p : Place) (x : Next) (r : Outcome) (d : ℕ) → answerOf x ≡ Answered r → ¬ (Runs (workerAfter o e p x) d)
-step-answered o e p (Go q) r d z h = clash (cc)
-step-answered o e p (Help f) r d z h = clash (cc)
-step-answered o e p Over r d z h = clash (cc)
-step-answered o e p Wait r d z h = clash (cc)
-step-answered o e p (Answer y) r d z h = clash (cc)
-
 pub step-shows-none : (x : Next) (y : ℕ) → answerOf x ≢ Shows y
 step-shows-none (Go q) y z = clash (cc)
 step-shows-none (Help f) y z = clash (cc)
 step-shows-none Over y z = clash (cc)
 step-shows-none Wait y z = clash (cc)
 step-shows-none (Answer r) y z = clash (cc)
+
+-- S, F and V: the answers that end what a worker runs
+abbrev pub final : A.Answer → Bool
+final Ok = false
+final (Opened d) = false
+final Moved = false
+final (Helping e) = false
+final Waits = false
+final (Answered o) = true
+final (Shows y) = true
+final Recovering = false
+final Recovered = false
+final (Refused r) = false
+
+step-idle : (o : Own) (e : ℕ) (p : Place) (x : Next) → final (answerOf x) ≡ true → workerAfter o e p x ≡ Idle
+step-idle o e p (Go q) h = clash (cc)
+step-idle o e p (Help f) h = clash (cc)
+step-idle o e p Over h = clash (cc)
+step-idle o e p Wait h = clash (cc)
+step-idle o e p (Answer r) h = refl
+
+read-idle : (a : ℕ) (x : ReadNext) → final (readAnswer x) ≡ true → readAfter a x ≡ Idle
+read-idle a (Meet e) h = clash (cc)
+read-idle a (Clear y) h = clash (cc)
+read-idle a (Value y) h = refl
+
+module _ (n k : ℕ) (s : State) (v : ℕ) where
+  -- so does a crash; what is ended leaves its worker idle
+  set : (u : ℕ) (x : Worker) → u ≡ v → x ≡ Idle → upd (s .worker) u x v ≡ Idle
+  set u x p q = ap (upd (s .worker) u x) (sym p) ∙ upd-same (s .worker) u x ∙ q
+
+  crashed : (e : Event) (t : State) (r : A.Answer) → Turn n k s e t r → e ≡ Crash → r ≡ Ok → t .worker v ≡ Idle
+  crashed e t r (refused f x) p q = clash (cc)
+  crashed e t r (opens u c a l y b o) p q = clash (cc)
+  crashed e t r (adds u c j x b a g y l) p q = clash (cc)
+  crashed e t r (removes u c x j b a y) p q = clash (cc)
+  crashed e t r (submits u c a o) p q = clash (cc)
+  crashed e t r (discards u c a) p q = clash (cc)
+  crashed e t r (begins u x a o) p q = clash (cc)
+  crashed e t r (works u o c j x busy a y alone) p q = clash (cc)
+  crashed e t r (reads u x y a o) p q = clash (cc)
+  crashed e t r (clears u x y j a o) p q = clash (cc)
+  crashed e t r (backs-word a o) p q = clash (cc)
+  crashed e t r (backs-status c o) p q = clash (cc)
+  crashed e t r (backs-body c o) p q = clash (cc)
+  crashed e t r crashes p q = refl
+  crashed e t r (recovers c j x o y) p q = clash (cc)
+
+  stepped : (e : Event) (t : State) (r : A.Answer) → Turn n k s e t r → e ≡ Step v → final r ≡ true → t .worker v ≡ Idle
+  stepped e t r (refused f x) p q = clash (cc)
+  stepped e t r (opens u c a l y b o) p q = clash (cc)
+  stepped e t r (adds u c j x b a g y l) p q = clash (cc)
+  stepped e t r (removes u c x j b a y) p q = clash (cc)
+  stepped e t r (submits u c a o) p q = clash (cc)
+  stepped e t r (discards u c a) p q = clash (cc)
+  stepped e t r (begins u x a o) p q = clash (cc)
+  stepped e t r (works u o c j x busy a y alone) p q = set u _ (cc) (step-idle o c j (planOf j c x busy (ownerOf o c) .next) q)
+  stepped e t r (reads u x y a o) p q = set u _ (cc) (read-idle x (readPlan x y .next) q)
+  stepped e t r (clears u x y j a o) p q = set u _ (cc) (read-idle x (readClearPlan x y j .next) q)
+  stepped e t r (backs-word a o) p q = clash (cc)
+  stepped e t r (backs-status c o) p q = clash (cc)
+  stepped e t r (backs-body c o) p q = clash (cc)
+  stepped e t r crashes p q = clash (cc)
+  stepped e t r (recovers c j x o y) p q = clash (cc)
+
+  pub ended-idle : (e : Event) (t : State) (r : A.Answer) → Turn n k s e t r → EndsBy v e r → t .worker v ≡ Idle
+  ended-idle e t r x (by-crash p q) = crashed e t r x p q
+  ended-idle e t r x (by-answer o p q) = stepped e t r x p (ap final q)
+  ended-idle e t r x (by-value y p q) = stepped e t r x p (ap final q)
 
 module _ (n k : ℕ) (s : State) (v d : ℕ) where
   -- worker u, which was x, becomes y
@@ -134,64 +195,8 @@ module _ (n k : ℕ) (s : State) (v d : ℕ) where
   turn-came e t r (recovers c j x o y) h = inl h
 
   -- what is ended runs no more
-  gone : (u : ℕ) (y : Worker) → u ≡ v → ¬ (Runs y d) → ¬ (Runs (upd (s .worker) u y v) d)
-  gone u y q f = upd-if (λ (z : Worker). ¬ (Runs z d)) (s .worker) u v y (λ _. f) (λ p. absurd (p (sym q)))
-
-  crashed : (e : Event) (t : State) (r : A.Answer) → Turn n k s e t r → e ≡ Crash → r ≡ Ok → ¬ (Runs (t .worker v) d)
-  crashed e t r (refused f x) p q = clash (cc)
-  crashed e t r (opens u c a l y b o) p q = clash (cc)
-  crashed e t r (adds u c j x b a g y l) p q = clash (cc)
-  crashed e t r (removes u c x j b a y) p q = clash (cc)
-  crashed e t r (submits u c a o) p q = clash (cc)
-  crashed e t r (discards u c a) p q = clash (cc)
-  crashed e t r (begins u x a o) p q = clash (cc)
-  crashed e t r (works u o c j x busy a y alone) p q = clash (cc)
-  crashed e t r (reads u x y a o) p q = clash (cc)
-  crashed e t r (clears u x y j a o) p q = clash (cc)
-  crashed e t r (backs-word a o) p q = clash (cc)
-  crashed e t r (backs-status c o) p q = clash (cc)
-  crashed e t r (backs-body c o) p q = clash (cc)
-  crashed e t r crashes p q = λ h. clash (cc)
-  crashed e t r (recovers c j x o y) p q = clash (cc)
-
-  answered : (o : Outcome) (e : Event) (t : State) (r : A.Answer) → Turn n k s e t r → e ≡ Step v → r ≡ Answered o → ¬ (Runs (t .worker v) d)
-  answered z e t r (refused f x) p q = clash (cc)
-  answered z e t r (opens u c a l y b o) p q = clash (cc)
-  answered z e t r (adds u c j x b a g y l) p q = clash (cc)
-  answered z e t r (removes u c x j b a y) p q = clash (cc)
-  answered z e t r (submits u c a o) p q = clash (cc)
-  answered z e t r (discards u c a) p q = clash (cc)
-  answered z e t r (begins u x a o) p q = clash (cc)
-  answered z e t r (works u o c j x busy a y alone) p q = gone u _ (cc) (step-answered o c j (planOf j c x busy (ownerOf o c) .next) z d q)
-  answered z e t r (reads u x y a o) p q = gone u _ (cc) (read-runs-none x (readPlan x y .next) d)
-  answered z e t r (clears u x y j a o) p q = gone u _ (cc) (read-runs-none x (readClearPlan x y j .next) d)
-  answered z e t r (backs-word a o) p q = clash (cc)
-  answered z e t r (backs-status c o) p q = clash (cc)
-  answered z e t r (backs-body c o) p q = clash (cc)
-  answered z e t r crashes p q = clash (cc)
-  answered z e t r (recovers c j x o y) p q = clash (cc)
-
-  shown : (o : ℕ) (e : Event) (t : State) (r : A.Answer) → Turn n k s e t r → e ≡ Step v → r ≡ Shows o → ¬ (Runs (t .worker v) d)
-  shown z e t r (refused f x) p q = clash (cc)
-  shown z e t r (opens u c a l y b o) p q = clash (cc)
-  shown z e t r (adds u c j x b a g y l) p q = clash (cc)
-  shown z e t r (removes u c x j b a y) p q = clash (cc)
-  shown z e t r (submits u c a o) p q = clash (cc)
-  shown z e t r (discards u c a) p q = clash (cc)
-  shown z e t r (begins u x a o) p q = clash (cc)
-  shown z e t r (works u o c j x busy a y alone) p q = absurd (step-shows-none (planOf j c x busy (ownerOf o c) .next) z q)
-  shown z e t r (reads u x y a o) p q = gone u _ (cc) (read-runs-none x (readPlan x y .next) d)
-  shown z e t r (clears u x y j a o) p q = gone u _ (cc) (read-runs-none x (readClearPlan x y j .next) d)
-  shown z e t r (backs-word a o) p q = clash (cc)
-  shown z e t r (backs-status c o) p q = clash (cc)
-  shown z e t r (backs-body c o) p q = clash (cc)
-  shown z e t r crashes p q = clash (cc)
-  shown z e t r (recovers c j x o y) p q = clash (cc)
-
   pub turn-ends : (e : Event) (t : State) (r : A.Answer) → Turn n k s e t r → EndsBy v e r → ¬ (Runs (t .worker v) d)
-  turn-ends e t r x (by-crash p q) = crashed e t r x p q
-  turn-ends e t r x (by-answer o p q) = answered o e t r x p q
-  turn-ends e t r x (by-value y p q) = shown y e t r x p q
+  turn-ends e t r x y h = let z : Runs Idle d = subst (λ (w : Worker). Runs w d) (ended-idle n k s v e t r x y) h in clash (cc)
 
   -- an accepted submission: who builds c is at its operation's start
   pub turn-submits : (e : Event) (t : State) (r : A.Answer) → Turn n k s e t r → e ≡ Submit v → r ≡ Ok

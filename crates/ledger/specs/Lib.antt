@@ -55,3 +55,12 @@ pub mod RuntimeHolds
 pub mod RecoverySteps
 pub mod StepsLeft
 pub mod RecoveryBound
+pub mod OverBytes
+pub mod Lines
+pub mod Out
+pub mod Setup
+pub mod ReadBegun
+pub mod Behind
+pub mod Places
+pub mod LastLine
+pub mod BytesDemand

@@ -85,10 +85,10 @@ module _ (n k w : ℕ) (nn : n ≤ 64) (kk : k ≤ 16) (ww : w ≤ 8) (kp : 0 < 
   pub answers : (i : ℕ) (e : Event) (r : Answer) → Happens n k w es i e r → answer i ≡ r
   answers i e r h = ap (λ (x : Event). applyOf (m i) x .answer) (h .event) ∙ h .answer
 
-  happens : (i : ℕ) (e : Event) (r : Answer) → i < length es → event i ≡ e → answer i ≡ r → Happens n k w es i e r
+  pub happens : (i : ℕ) (e : Event) (r : Answer) → i < length es → event i ≡ e → answer i ≡ r → Happens n k w es i e r
   happens i e r l p q = record { there = l; event = p; answer = ap (λ (x : Event). applyOf (m i) x .answer) (sym p) ∙ q }
 
-  ends-by : (v i : ℕ) → Ends n k w es v i → (i < length es) × EndsBy v (event i) (answer i)
+  pub ends-by : (v i : ℕ) → Ends n k w es v i → (i < length es) × EndsBy v (event i) (answer i)
   ends-by v i (crash h) = (h .there, by-crash (h .event) (answers i _ _ h))
   ends-by v i (answered o h) = (h .there, by-answer o (h .event) (answers i _ _ h))
   ends-by v i (shown x h) = (h .there, by-value x (h .event) (answers i _ _ h))
