@@ -20,6 +20,9 @@ case $last in
 *) fail "rt ci ended with '$last'" ;;
 esac
 
+# what each crate's check took, for docs/ARCHITECTURE.md
+echo "seconds: $(sed -n 's/^rt: \([a-z]*\) proved (\([0-9]*\) s).*/\1 \2/p' build/ci.log | sort -k2 -n -r | tr '\n' ',' | sed 's/,$//; s/,/, /g')"
+
 for check in tests/checks/*.sh; do
     sh "$check" || fail "$check"
 done
