@@ -1,3 +1,5 @@
 pub mod PartLaws
+pub mod ClaimLaws
 pub mod ImageLaws
+pub mod VisitLaws
 pub mod RunLaws
