@@ -2,7 +2,7 @@
 use mathlib.Core.Path.{_≡_, refl, sym, ap, _∙_}
 use mathlib.Core.Bool.{Bool, true, false, not, _&&_, _||_}
 use mathlib.Core.List.{List}
-use Prim.Native.Nat.{ℕ, zero, suc, _+_, _-_, _*_, _/_, _%_, _<_, _≤_, _^_}
+use Prim.Native.Nat.{ℕ, zero, suc, _+_, _-_, _*_, _%_, _<_, _≤_, _^_}
 use native.Mathlib.Nat.{add-sub-cancel-left}
 use native.Mathlib.Omega.{arith}
 use lib.Dec.{eqb, leb, ltb}
@@ -16,7 +16,7 @@ use Rattle.word.specs.Bits.{set-bit, by-bits}
 use Rattle.steps.specs.declared.Entry.{Entry}
 use Rattle.steps.specs.Plan.{isFree, pointsTo}
 use Rattle.little.specs.Number.{numberAt}
-use Rattle.image.specs.Layout.{wordOf, descriptorPlace, partOf, statusIn, countIn, entryIn}
+use Rattle.image.specs.Layout.{wordOf, descriptorPlace, partOf, statusIn, entryIn}
 use Rattle.image.specs.Check.{someBelow, badBody, isNeither, hasWithin, hasAddress, badTarget, badPointer, badPointerAt, badBodies, badWords, badPointers}
 use Rattle.image.specs.CheckLaws.{none-below}
 use Rattle.image.specs.Good.{live-count, entry-good, entry-small}

@@ -1,27 +1,21 @@
 -- The checks over the whole image: one law for each answer.
 use mathlib.Core.Path.{_≡_, refl, sym, _∙_}
-use mathlib.Core.Bool.{Bool, true, false, not, _||_}
+use mathlib.Core.Bool.{Bool, true, false, _||_}
 use mathlib.Core.List.{List}
-use Prim.Native.Nat.{ℕ, _+_, _-_, _*_, _<_, _≤_}
-use native.Mathlib.Nat.{add-sub-cancel-left}
+use Prim.Native.Nat.{ℕ, _+_, _*_, _<_, _≤_}
 use native.Mathlib.Omega.{arith}
-use lib.ListN.{length, getD, take, drop}
+use lib.ListN.{length, getD}
 use borrow.Author.Tests.{eq-eqb, ne-eqb, le-leb, lt-leb, lt-ltb, le-ltb, ltb-true, ltb-false}
 use lib.Dec.{ltb}
 use Rattle.word.specs.declared.Sort.{Sort}
 use Rattle.word.specs.Word.{sortOf}
-use Rattle.steps.specs.Plan.{isFree}
 use Rattle.little.specs.Number.{numberAt}
 use Rattle.events.specs.Refusal.{firstOf}
-use Rattle.image.specs.Layout.{wordOf, descriptorPlace, partOf, statusIn}
+use Rattle.image.specs.Layout.{wordOf, partOf}
 use Rattle.image.specs.Check.{badSizes, badStatus, badBody, isNeither, badStatuses, badBodies, badWords, badPointers, contentRefusal, imageRefusal}
 use Rattle.image.specs.CheckLaws.{or-left, or-right, below-found, below-next, sizes-small}
 use Rattle.image.specs.Claims.{Marked, badMarked, badMarkeds, badDescriptors}
-use Rattle.image.proofs.ClaimLaws.{below-either, marked-words}
-
--- the bytes from a descriptor's place to 112 further on
-abbrev given : List ℕ → ℕ → ℕ → List ℕ
-given x n d = take (descriptorPlace n d + 112 - descriptorPlace n d) (drop (descriptorPlace n d) x)
+use Rattle.image.proofs.ClaimLaws.{given, given-part, below-either, marked-words}
 
 module _ (n k : ℕ) where
   pub no-words : n < 1 → true ≡ badSizes n k
@@ -45,7 +39,7 @@ module _ (n k : ℕ) where
 module _ (x : List ℕ) (n d : ℕ) (r : Bool) where
   module _ (e : badStatuses n d x ≡ false) (g : r ≡ badStatus (given x n d)) where
     status-here : r ≡ badStatus (partOf x n d)
-    status-here = rw (add-sub-cancel-left (descriptorPlace n d) 112) at g
+    status-here = rw (given-part x n d) at g
 
     pub statuses-found : (k : ℕ) → d < k → r ≡ true → true ≡ badStatuses n k x
     statuses-found k l h = below-found (λ c. badStatus (partOf x n c)) d k r e l status-here h
@@ -56,14 +50,14 @@ module _ (x : List ℕ) (n d : ℕ) (r : Bool) where
 -- 21 or 22
 module _ (x : List ℕ) (n d : ℕ) (r : Bool) (e : badDescriptors n d x ≡ false) (g : r ≡ badStatus (given x n d)) where
   is-status : r ≡ badStatus (partOf x n d)
-  is-status = rw (add-sub-cancel-left (descriptorPlace n d) 112) at g
+  is-status = rw (given-part x n d) at g
 
   pub descriptors-status : (k : ℕ) → d < k → r ≡ true → true ≡ badDescriptors n k x
   descriptors-status k l h = below-found (λ c. badStatus (partOf x n c) || badBody n (partOf x n c)) d k true e l (rw (← is-status, h)) refl
 
   module _ (h : r ≡ false) (t : Bool) (f : t ≡ badBody n (given x n d)) where
     is-body : t ≡ (badStatus (partOf x n d) || badBody n (partOf x n d))
-    is-body = (rw (add-sub-cancel-left (descriptorPlace n d) 112) at f) ∙ rw (← is-status, h)
+    is-body = (rw (given-part x n d) at f) ∙ rw (← is-status, h)
 
     pub descriptors-body : (k : ℕ) → d < k → t ≡ true → true ≡ badDescriptors n k x
     descriptors-body k l q = below-found (λ c. badStatus (partOf x n c) || badBody n (partOf x n c)) d k t e l is-body q

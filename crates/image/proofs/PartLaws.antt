@@ -1,11 +1,11 @@
 -- A descriptor's 112 bytes: one law for each answer.
-use mathlib.Core.Path.{_≡_, refl, sym, ap, _∙_}
-use mathlib.Core.Bool.{Bool, true, false, not, cond, _&&_, _||_}
+use mathlib.Core.Path.{_≡_, refl, _∙_}
+use mathlib.Core.Bool.{Bool, true, false, not, cond, _||_}
 use mathlib.Core.List.{List}
 use Prim.Native.Nat.{ℕ, zero, suc, _+_, _-_, _*_, _/_, _%_, _<_, _≤_, _^_}
 use native.Mathlib.Omega.{arith}
-use lib.Dec.{eqb, leb, ltb}
-use borrow.Author.Tests.{eq-eqb, ne-eqb, le-leb, lt-leb, lt-ltb, le-ltb, leb-true}
+use lib.Dec.{eqb, leb}
+use borrow.Author.Tests.{le-leb, lt-leb, lt-ltb, le-ltb}
 use Rattle.word.specs.declared.Outcome.{Outcome}
 use Rattle.word.specs.declared.Outcome.the-variants.{Succeeded, Failed}
 use Rattle.word.specs.declared.Status.{Status}
@@ -13,11 +13,9 @@ use Rattle.word.specs.declared.Status.the-variants.{Free, Undecided, Decided, B
 use Rattle.word.specs.Status.{statusOf}
 use Rattle.steps.specs.declared.Entry.{Entry}
 use Rattle.steps.specs.Plan.{isFree}
-use Rattle.memory.specs.Fresh.{within}
 use Rattle.little.specs.Number.{numberAt}
 use Rattle.image.specs.Layout.{statusIn, countIn, entryIn}
-use Rattle.image.specs.Check.{someBelow, isBad, badStatus, badEntry, badAt, badBody, hasWithin, hasAddress}
-use Rattle.image.specs.CheckLaws.{below-found, below-next, below-none}
+use Rattle.image.specs.Check.{someBelow, isBad, badStatus, badEntry, badAt, badBody}
 
 free-by : (a b c d : Bool) (o p : Outcome) (s t : Bool) (v : ℕ)
     → a ≡ isFree (cond a Free (cond b Undecided (cond c (Decided o s) (cond d (Decided p t) (Bad v)))))

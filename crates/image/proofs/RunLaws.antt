@@ -1,6 +1,6 @@
 -- A run of recovery is its visits, one after the other: one law for each answer.
 use mathlib.Core.Path.{_≡_, refl, sym, ap, _∙_}
-use mathlib.Core.Bool.{Bool, true, false, cond}
+use mathlib.Core.Bool.{true, false, cond}
 use mathlib.Core.List.{List}
 use Prim.Native.Nat.{ℕ, zero, suc, _+_, _-_, _*_, _<_, _≤_}
 use native.Mathlib.Omega.{arith}
@@ -14,7 +14,7 @@ use Rattle.steps.specs.declared.RecoveryPlace.the-variants.{Outside, At}
 use Rattle.machine.specs.Recover.{placeAfter, visitAfter}
 use Rattle.image.specs.declared.recover.Visit.{Visit}
 use Rattle.image.specs.declared.recover.Visit.the-variants.{Over, Stopped}
-use Rattle.image.specs.Layout.{descriptorPlace, partOf}
+use Rattle.image.specs.Layout.{partOf}
 use Rattle.image.specs.Check.{badBody, imageRefusal}
 use Rattle.image.specs.CheckLaws.{accepted, sizes-small}
 use Rattle.image.specs.Good.{Good, good}
