@@ -1,25 +1,21 @@
 -- The checks over the whole image: one law for each answer.
 use mathlib.Core.Path.{_≡_, refl, sym, _∙_}
-use mathlib.Core.Bool.{Bool, true, false, not, _||_}
+use mathlib.Core.Bool.{Bool, true, false, _||_}
 use mathlib.Core.List.{List}
-use Prim.Native.Nat.{ℕ, _+_, _-_, _*_, _<_, _≤_}
-use native.Mathlib.Nat.{add-sub-cancel-left}
+use Prim.Native.Nat.{ℕ, _+_, _*_, _<_, _≤_}
 use native.Mathlib.Omega.{arith}
-use lib.ListN.{length, take, drop}
+use lib.ListN.{length, getD}
 use borrow.Author.Tests.{eq-eqb, ne-eqb, le-leb, lt-leb, lt-ltb, le-ltb, ltb-true, ltb-false}
 use lib.Dec.{ltb}
 use Rattle.word.specs.declared.Sort.{Sort}
 use Rattle.word.specs.Word.{sortOf}
-use Rattle.steps.specs.Plan.{isFree}
 use Rattle.little.specs.Number.{numberAt}
 use Rattle.events.specs.Refusal.{firstOf}
-use Rattle.image.specs.Layout.{wordOf, descriptorPlace, partOf, statusIn}
-use Rattle.image.specs.Check.{badSizes, badStatus, badBody, isNeither, hasAddress, badTarget, badPointer, badPointerAt, badStatuses, badBodies, badWords, badPointers, contentRefusal, imageRefusal}
-use Rattle.image.specs.CheckLaws.{below-found, below-next, none-below, sizes-small}
-
--- the bytes from a descriptor's place to 112 further on
-abbrev given : List ℕ → ℕ → ℕ → List ℕ
-given x n d = take (descriptorPlace n d + 112 - descriptorPlace n d) (drop (descriptorPlace n d) x)
+use Rattle.image.specs.Layout.{wordOf, partOf}
+use Rattle.image.specs.Check.{badSizes, badStatus, badBody, isNeither, badStatuses, badBodies, badWords, badPointers, contentRefusal, imageRefusal}
+use Rattle.image.specs.CheckLaws.{or-left, or-right, below-found, below-next, sizes-small}
+use Rattle.image.specs.Claims.{Marked, badMarked, badMarkeds, badDescriptors}
+use Rattle.image.proofs.ClaimLaws.{given, given-part, below-either, marked-words}
 
 module _ (n k : ℕ) where
   pub no-words : n < 1 → true ≡ badSizes n k
@@ -43,7 +39,7 @@ module _ (n k : ℕ) where
 module _ (x : List ℕ) (n d : ℕ) (r : Bool) where
   module _ (e : badStatuses n d x ≡ false) (g : r ≡ badStatus (given x n d)) where
     status-here : r ≡ badStatus (partOf x n d)
-    status-here = rw (add-sub-cancel-left (descriptorPlace n d) 112) at g
+    status-here = rw (given-part x n d) at g
 
     pub statuses-found : (k : ℕ) → d < k → r ≡ true → true ≡ badStatuses n k x
     statuses-found k l h = below-found (λ c. badStatus (partOf x n c)) d k r e l status-here h
@@ -51,15 +47,23 @@ module _ (x : List ℕ) (n d : ℕ) (r : Bool) where
     pub statuses-next : r ≡ false → badStatuses n (d + 1) x ≡ false
     statuses-next h = below-next (λ c. badStatus (partOf x n c)) d r e status-here h
 
-  module _ (e : badBodies n d x ≡ false) (g : r ≡ badBody n (given x n d)) where
-    body-here : r ≡ badBody n (partOf x n d)
-    body-here = rw (add-sub-cancel-left (descriptorPlace n d) 112) at g
+-- 21 or 22
+module _ (x : List ℕ) (n d : ℕ) (r : Bool) (e : badDescriptors n d x ≡ false) (g : r ≡ badStatus (given x n d)) where
+  is-status : r ≡ badStatus (partOf x n d)
+  is-status = rw (given-part x n d) at g
 
-    pub bodies-found : (k : ℕ) → d < k → r ≡ true → true ≡ badBodies n k x
-    bodies-found k l h = below-found (λ c. badBody n (partOf x n c)) d k r e l body-here h
+  pub descriptors-status : (k : ℕ) → d < k → r ≡ true → true ≡ badDescriptors n k x
+  descriptors-status k l h = below-found (λ c. badStatus (partOf x n c) || badBody n (partOf x n c)) d k true e l (rw (← is-status, h)) refl
 
-    pub bodies-next : r ≡ false → badBodies n (d + 1) x ≡ false
-    bodies-next h = below-next (λ c. badBody n (partOf x n c)) d r e body-here h
+  module _ (h : r ≡ false) (t : Bool) (f : t ≡ badBody n (given x n d)) where
+    is-body : t ≡ (badStatus (partOf x n d) || badBody n (partOf x n d))
+    is-body = (rw (given-part x n d) at f) ∙ rw (← is-status, h)
+
+    pub descriptors-body : (k : ℕ) → d < k → t ≡ true → true ≡ badDescriptors n k x
+    descriptors-body k l q = below-found (λ c. badStatus (partOf x n c) || badBody n (partOf x n c)) d k t e l is-body q
+
+    pub descriptors-next : t ≡ false → badDescriptors n (d + 1) x ≡ false
+    descriptors-next q = below-next (λ c. badStatus (partOf x n c) || badBody n (partOf x n c)) d t e is-body q
 
 module _ (x : List ℕ) (a u : ℕ) (s : Sort) (r : Bool) (f : u ≡ numberAt x (8 * a)) (g : s ≡ sortOf u) where
   module _ (e : badWords a x ≡ false) (h : r ≡ isNeither s) where
@@ -72,53 +76,71 @@ module _ (x : List ℕ) (a u : ℕ) (s : Sort) (r : Bool) (f : u ≡ numberAt x 
     pub words-next : r ≡ false → badWords (a + 1) x ≡ false
     words-next q = below-next (λ b. isNeither (wordOf x b)) a r e neither-here q
 
-  pub pointer-is : (n k : ℕ) → r ≡ badPointer n k x a s → r ≡ badPointerAt n k x a
-  unfolding badPointerAt
-  pointer-is n k h = h ∙ rw (g, f)
+  -- 23 or 24
+  module _ (m : List Bool) (e : badMarkeds a x m ≡ false) (h : r ≡ badMarked (getD m a false) s) where
+    marked-here : r ≡ badMarked (getD m a false) (wordOf x a)
+    marked-here = h ∙ rw (g, f)
 
-module _ (n k : ℕ) (x : List ℕ) (a d : ℕ) where
-  pub target-past : k ≤ d → true ≡ badTarget n k x a d
-  unfolding badTarget
-  target-past h = rw (le-leb k d h)
+    pub marked-found : (n : ℕ) → a < n → r ≡ true → true ≡ badMarkeds n x m
+    marked-found n l q = below-found (λ b. badMarked (getD m b false) (wordOf x b)) a n r e l marked-here q
 
-  pub target-here : (r : Bool) → d < k → r ≡ (isFree (statusIn (given x n d)) || not (hasAddress (given x n d) a)) → r ≡ badTarget n k x a d
-  unfolding badTarget
-  target-here r h e = (rw (add-sub-cancel-left (descriptorPlace n d) 112) at e) ∙ rw (lt-leb k d h)
-
-pub target-body : (n k : ℕ) (x : List ℕ) (d : ℕ) → badBodies n k x ≡ false → d < k → badBody n (given x n d) ≡ false
-target-body n k x d e h = rw (add-sub-cancel-left (descriptorPlace n d) 112) (none-below (λ c. badBody n (partOf x n c)) k e d h)
-
-pub pointer-by : (n k : ℕ) (x : List ℕ) (a : ℕ) (s q : Sort) (r : Bool) → s ≡ q → r ≡ badPointer n k x a q → r ≡ badPointer n k x a s
-pointer-by n k x a s q r e h = rw e h
+    pub marked-next : r ≡ false → badMarkeds (a + 1) x m ≡ false
+    marked-next q = below-next (λ b. badMarked (getD m b false) (wordOf x b)) a r e marked-here q
 
 -- the first that holds
 pub refuse-length : (n k : ℕ) (x : List ℕ) → (length x ≡ 8 * n + 112 * k → ⊥) → 20 ≡ contentRefusal n k x
 unfolding contentRefusal firstOf
 refuse-length n k x g = rw (ne-eqb _ _ g)
 
-module _ (n k : ℕ) (x : List ℕ) (o : length x ≡ 8 * n + 112 * k) (s : Bool) (e : s ≡ badStatuses n k x) where
-  pub refuse-status : s ≡ true → 21 ≡ contentRefusal n k x
-  unfolding contentRefusal firstOf
-  refuse-status h = rw (eq-eqb _ _ o, ← e, h)
+module _ (n k : ℕ) (x : List ℕ) (o : length x ≡ 8 * n + 112 * k) (t : Bool) (e : t ≡ badDescriptors n k x) where
+  either : t ≡ (badStatuses n k x || badBodies n k x)
+  either = e ∙ below-either (λ d. badStatus (partOf x n d)) (λ d. badBody n (partOf x n d)) k
 
-  module _ (f : s ≡ false) (t : Bool) (g : t ≡ badBodies n k x) where
-    pub refuse-body : t ≡ true → 22 ≡ contentRefusal n k x
+  module _ (f : t ≡ true) (s : Bool) (g : s ≡ badStatuses n k x) where
+    pub refuse-status : s ≡ true → 21 ≡ contentRefusal n k x
     unfolding contentRefusal firstOf
-    refuse-body h = rw (eq-eqb _ _ o, ← e, f, ← g, h)
+    refuse-status h = rw (eq-eqb _ _ o, ← g, h)
 
-    module _ (i : t ≡ false) (u : Bool) (j : u ≡ badWords n x) where
-      pub refuse-word : u ≡ true → 23 ≡ contentRefusal n k x
+    pub refuse-body : s ≡ false → 22 ≡ contentRefusal n k x
+    unfolding contentRefusal firstOf
+    refuse-body h =
+        let i : badStatuses n k x ≡ false = sym g ∙ h in
+        let j : badBodies n k x ≡ true = sym (rw (f, i) at either) in
+        rw (eq-eqb _ _ o, i, j)
+
+  module _ (f : t ≡ false) where
+    none : (badStatuses n k x || badBodies n k x) ≡ false
+    none = sym either ∙ f
+
+    pub no-status : badStatuses n k x ≡ false
+    no-status = or-left (badStatuses n k x) (badBodies n k x) none
+
+    pub no-body : badBodies n k x ≡ false
+    no-body = or-right (badStatuses n k x) (badBodies n k x) none
+
+    module _ (l : n ≤ 64) (m : List Bool) (p : Marked n k x m) (u : Bool) (g : u ≡ badMarkeds n x m) where
+      words : u ≡ (badWords n x || badPointers n k x)
+      words = g ∙ marked-words n k x m l p
+
+      module _ (h : u ≡ true) (w : Bool) (q : w ≡ badWords n x) where
+        pub refuse-word : w ≡ true → 23 ≡ contentRefusal n k x
+        unfolding contentRefusal firstOf
+        refuse-word i = rw (eq-eqb _ _ o, no-status, no-body, ← q, i)
+
+        pub refuse-pointer : w ≡ false → 24 ≡ contentRefusal n k x
+        unfolding contentRefusal firstOf
+        refuse-pointer i =
+            let z : badWords n x ≡ false = sym q ∙ i in
+            let j : badPointers n k x ≡ true = sym (rw (h, z) at words) in
+            rw (eq-eqb _ _ o, no-status, no-body, z, j)
+
+      pub refuse-none : u ≡ false → 0 ≡ contentRefusal n k x
       unfolding contentRefusal firstOf
-      refuse-word h = rw (eq-eqb _ _ o, ← e, f, ← g, i, ← j, h)
-
-      module _ (l : u ≡ false) (w : Bool) (m : w ≡ badPointers n k x) where
-        pub refuse-pointer : w ≡ true → 24 ≡ contentRefusal n k x
-        unfolding contentRefusal firstOf
-        refuse-pointer h = rw (eq-eqb _ _ o, ← e, f, ← g, i, ← j, l, ← m, h)
-
-        pub refuse-none : w ≡ false → 0 ≡ contentRefusal n k x
-        unfolding contentRefusal firstOf
-        refuse-none h = rw (eq-eqb _ _ o, ← e, f, ← g, i, ← j, l, ← m, h)
+      refuse-none h =
+          let z : (badWords n x || badPointers n k x) ≡ false = sym words ∙ h in
+          let i = or-left (badWords n x) (badPointers n k x) z in
+          let j = or-right (badWords n x) (badPointers n k x) z in
+          rw (eq-eqb _ _ o, no-status, no-body, i, j)
 
 module _ (n k : ℕ) (t : Bool) (e : t ≡ badSizes n k) where
   pub refuse-sizes : (x : List ℕ) → t ≡ true → 1 ≡ imageRefusal n k x

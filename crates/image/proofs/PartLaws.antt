@@ -1,11 +1,11 @@
 -- A descriptor's 112 bytes: one law for each answer.
-use mathlib.Core.Path.{_≡_, refl, sym, ap, _∙_}
-use mathlib.Core.Bool.{Bool, true, false, not, cond, _&&_, _||_}
+use mathlib.Core.Path.{_≡_, refl, _∙_}
+use mathlib.Core.Bool.{Bool, true, false, not, cond, _||_}
 use mathlib.Core.List.{List}
 use Prim.Native.Nat.{ℕ, zero, suc, _+_, _-_, _*_, _/_, _%_, _<_, _≤_, _^_}
 use native.Mathlib.Omega.{arith}
-use lib.Dec.{eqb, leb, ltb}
-use borrow.Author.Tests.{eq-eqb, ne-eqb, le-leb, lt-leb, lt-ltb, le-ltb, leb-true}
+use lib.Dec.{eqb, leb}
+use borrow.Author.Tests.{le-leb, lt-leb, lt-ltb, le-ltb}
 use Rattle.word.specs.declared.Outcome.{Outcome}
 use Rattle.word.specs.declared.Outcome.the-variants.{Succeeded, Failed}
 use Rattle.word.specs.declared.Status.{Status}
@@ -13,11 +13,9 @@ use Rattle.word.specs.declared.Status.the-variants.{Free, Undecided, Decided, B
 use Rattle.word.specs.Status.{statusOf}
 use Rattle.steps.specs.declared.Entry.{Entry}
 use Rattle.steps.specs.Plan.{isFree}
-use Rattle.memory.specs.Fresh.{within}
 use Rattle.little.specs.Number.{numberAt}
 use Rattle.image.specs.Layout.{statusIn, countIn, entryIn}
-use Rattle.image.specs.Check.{someBelow, isBad, badStatus, badEntry, badAt, badBody, hasWithin, hasAddress}
-use Rattle.image.specs.CheckLaws.{below-found, below-next, below-none}
+use Rattle.image.specs.Check.{someBelow, isBad, badStatus, badEntry, badAt, badBody}
 
 free-by : (a b c d : Bool) (o p : Outcome) (s t : Bool) (v : ℕ)
     → a ≡ isFree (cond a Free (cond b Undecided (cond c (Decided o s) (cond d (Decided p t) (Bad v)))))
@@ -27,7 +25,7 @@ free-by false false true d o p s t v = refl
 free-by false false false true o p s t v = refl
 free-by false false false false o p s t v = refl
 
-free-number : (u : ℕ) → eqb u 0 ≡ isFree (statusOf u)
+pub free-number : (u : ℕ) → eqb u 0 ≡ isFree (statusOf u)
 unfolding statusOf
 free-number u = free-by (eqb u 0) (eqb u 1) (eqb (u % 2 ^ 63) 2) (eqb (u % 2 ^ 63) 3) Succeeded Failed (not (eqb (u / 2 ^ 63) 0)) (not (eqb (u / 2 ^ 63) 0)) u
 
@@ -41,39 +39,24 @@ pub entry-law : (p : List ℕ) (i a b c : ℕ) → a ≡ numberAt p (16 + 24 * i
     → _≡_ {A = Entry} (record { address = a; expected = b; desired = c }) (entryIn p i)
 entry-law p i a b c e f g = rw (e, f, g)
 
-module _ (n : ℕ) (e : Entry) where
-  pub entry-address : n ≤ e .address → true ≡ badEntry n e
-  unfolding badEntry
-  entry-address h = rw (le-leb _ _ h)
-
-  pub entry-expected : e .address < n → 2 ^ 61 ≤ e .expected → true ≡ badEntry n e
-  unfolding badEntry
-  entry-expected h l = rw (lt-leb _ _ h, le-leb _ _ l)
-
-  pub entry-desired : e .address < n → e .expected < 2 ^ 61 → leb (2 ^ 61) (e .desired) ≡ badEntry n e
-  unfolding badEntry
-  entry-desired h l = rw (lt-leb _ _ h, lt-leb _ _ l)
+pub entry-any : (n : ℕ) (e : Entry) → (leb n (e .address) || (leb (2 ^ 61) (e .expected) || leb (2 ^ 61) (e .desired))) ≡ badEntry n e
+unfolding badEntry
+entry-any n e = refl
 
 -- entry i, and its address against the one before it
-pub at-entry : (n : ℕ) (p : List ℕ) (i : ℕ) (e : Entry) (r : Bool) → e ≡ entryIn p i → r ≡ badEntry n e → r ≡ true → true ≡ badAt n p i
+pub at-first : (n : ℕ) (p : List ℕ) (i : ℕ) (e : Entry) (r : Bool) → e ≡ entryIn p i → r ≡ badEntry n e → i ≡ 0 → r ≡ badAt n p i
 unfolding badAt
-at-entry n p zero e r f g h = sym h ∙ g ∙ rw f
-at-entry n p (suc i) e r f g h = let k : badEntry n (entryIn p (suc i)) ≡ true = rw (← f) (sym g ∙ h) in rw k
+at-first n p zero e r f g l = g ∙ rw f
+at-first n p (suc i) e r f g l = absurd (omega arith)
 
-pub at-first : (n : ℕ) (p : List ℕ) (i : ℕ) (e : Entry) (r : Bool) → e ≡ entryIn p i → r ≡ badEntry n e → r ≡ false → i ≡ 0 → false ≡ badAt n p i
+pub at-order : (n : ℕ) (p : List ℕ) (i : ℕ) (e b : Entry) (r : Bool) → e ≡ entryIn p i → r ≡ badEntry n e → (i ≡ 0 → ⊥) → b ≡ entryIn p (i - 1)
+    → (r || leb (e .address) (b .address)) ≡ badAt n p i
 unfolding badAt
-at-first n p zero e r f g h l = sym h ∙ g ∙ rw f
-at-first n p (suc i) e r f g h l = absurd (omega arith)
-
-pub at-order : (n : ℕ) (p : List ℕ) (i : ℕ) (e b : Entry) (r : Bool) → e ≡ entryIn p i → r ≡ badEntry n e → r ≡ false → (i ≡ 0 → ⊥) → b ≡ entryIn p (i - 1)
-    → leb (e .address) (b .address) ≡ badAt n p i
-unfolding badAt
-at-order n p zero e b r f g h l m = absurd (l refl)
-at-order n p (suc i) e b r f g h l m =
+at-order n p zero e b r f g l m = absurd (l refl)
+at-order n p (suc i) e b r f g l m =
     let z : suc i - 1 ≡ i = omega arith in
-    let k : badEntry n (entryIn p (suc i)) ≡ false = rw (← f) (sym g ∙ h) in
     let q : b ≡ entryIn p i = rw z at m in
-    rw (k, f, q)
+    rw (g, f, q)
 
 module _ (n : ℕ) (p : List ℕ) (t : Bool) (e : t ≡ isFree (statusIn p)) where
   pub body-free : t ≡ true → false ≡ badBody n p
@@ -92,43 +75,3 @@ module _ (n : ℕ) (p : List ℕ) (t : Bool) (e : t ≡ isFree (statusIn p)) whe
     pub body-entries : (r : Bool) → 1 ≤ c → c ≤ 4 → r ≡ someBelow c (λ i. badAt n p i) → r ≡ badBody n p
     unfolding badBody
     body-entries r h l k = let m : 0 < c = omega arith in k ∙ rw (← e, f, ← g, lt-ltb 0 c m, le-leb c 4 l)
-
--- a body that has passed has at most four entries
-few : (c : ℕ) (t : Bool) → (not (within c 4) || t) ≡ false → c ≤ 4
-few c t e = go (leb c 4) refl
-  where
-    go : (s : Bool) → leb c 4 ≡ s → c ≤ 4
-    go true f = leb-true _ _ f
-    go false f = absurd (no (ltb 0 c) (rw f at e))
-      where
-        no : (s : Bool) → (not (s && false) || t) ≡ false → ⊥
-        no true q = let z : _≡_ {A = ℕ} 0 1 = cc in omega arith
-        no false q = let z : _≡_ {A = ℕ} 0 1 = cc in omega arith
-
-pub body-count : (n : ℕ) (p : List ℕ) (t : Bool) (c : ℕ) → badBody n p ≡ false → t ≡ isFree (statusIn p) → t ≡ false → c ≡ countIn p → c ≤ 4
-unfolding badBody
-body-count n p t c b e f g = few c (someBelow c (λ i. badAt n p i)) (rw (← e, f, ← g) at b)
-
--- the first so many entries have the address
-module _ (p : List ℕ) (a i : ℕ) (e : Entry) (g : hasWithin p i a ≡ false) (f : e ≡ entryIn p i) where
-  here : e .address ≡ entryIn p i .address
-  here = ap (λ (d : Entry). d .address) f
-
-  pub address-found : (c : ℕ) → i < c → e .address ≡ a → true ≡ hasWithin p c a
-  unfolding hasWithin
-  address-found c l h = below-found (λ j. eqb (entryIn p j .address) a) i c true g l (sym (eq-eqb _ _ (sym here ∙ h))) refl
-
-  pub address-next : (e .address ≡ a → ⊥) → hasWithin p (i + 1) a ≡ false
-  unfolding hasWithin
-  address-next h = below-next (λ j. eqb (entryIn p j .address) a) i false g (sym (ne-eqb _ _ (λ q. h (here ∙ q)))) refl
-
-pub address-none : (p : List ℕ) (a i c : ℕ) → hasWithin p i a ≡ false → i ≤ c → c ≤ i → false ≡ hasWithin p c a
-unfolding hasWithin
-address-none p a i c e l m = below-none (λ j. eqb (entryIn p j .address) a) i c e l m
-
-module _ (p : List ℕ) (a : ℕ) (t : Bool) (e : t ≡ isFree (statusIn p)) where
-  pub lacks-free : t ≡ true → true ≡ (isFree (statusIn p) || not (hasAddress p a))
-  lacks-free f = rw (← e, f)
-
-  pub lacks-address : (c : ℕ) (r : Bool) → t ≡ false → c ≡ countIn p → r ≡ hasWithin p c a → not r ≡ (isFree (statusIn p) || not (hasAddress p a))
-  lacks-address c r f g h = rw (← e, f, ← g, h)

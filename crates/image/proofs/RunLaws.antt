@@ -1,209 +1,165 @@
--- Recovery of an image: one law for each answer.
+-- A run of recovery is its visits, one after the other: one law for each answer.
 use mathlib.Core.Path.{_≡_, refl, sym, ap, _∙_}
-use mathlib.Core.Bool.{Bool, true, false, cond, _&&_}
+use mathlib.Core.Bool.{true, false, cond}
 use mathlib.Core.List.{List}
-use Prim.Native.Nat.{ℕ, zero, suc, _+_, _-_, _*_, _/_, _%_, _<_, _≤_}
-use native.Mathlib.Nat.{add-sub-cancel-left}
+use Prim.Native.Nat.{ℕ, zero, suc, _+_, _-_, _*_, _<_, _≤_}
 use native.Mathlib.Omega.{arith}
-use lib.Dec.{eqb, ltb}
-use lib.ListN.{length, take, drop}
-use borrow.Author.Tests.{lt-leb, ltb-true, eqb-true}
-use Rattle.word.specs.declared.Sort.{Sort}
-use Rattle.word.specs.declared.Status.{Status}
-use Rattle.word.specs.Word.{sortOf, wordNumber}
-use Rattle.word.specs.Status.{statusOf, statusNumber}
-use Rattle.little.specs.Number.{numberAt, withNumber}
-use Rattle.little.specs.Laws.{number-length}
-use Rattle.steps.specs.declared.Entry.{Entry}
-use Rattle.steps.specs.declared.Seen.{Seen}
-use Rattle.steps.specs.declared.Effect as E
-use Rattle.steps.specs.declared.Effect.{Effect}
-use Rattle.steps.specs.declared.Effect.the-variants.{Nothing, StoreWord, BackWord, StoreStatus, BackStatus}
+use lib.Dec.{ltb}
+use lib.ListN.{length}
+use borrow.Author.Tests.{lt-ltb, le-ltb}
 use Rattle.steps.specs.declared.More.{More}
 use Rattle.steps.specs.declared.More.the-variants.{Then, Done}
-use Rattle.steps.specs.declared.RecoveryPlan.{RecoveryPlan}
 use Rattle.steps.specs.declared.RecoveryPlace.{RecoveryPlace}
 use Rattle.steps.specs.declared.RecoveryPlace.the-variants.{Outside, At}
-use Rattle.steps.specs.Plan.{isFree}
-use Rattle.steps.specs.Recovery.{recoveryPlan, liveStep, entryStep, endStep}
 use Rattle.machine.specs.Recover.{placeAfter, visitAfter}
-use Rattle.image.specs.Layout.{Sized, wordOf, withWord, descriptorPlace, entryIn}
-use Rattle.image.specs.Check.{imageRefusal}
-use Rattle.image.specs.CheckLaws.{accepted, accepted-sized, sizes-small}
-use Rattle.image.specs.Recover.{seenIn, performedIn, planIn, imageAfter, placeThen, Ran, ran, isOutside, runFrom, answerFor, Recovered, recovered, reported, recoverOf}
-
-abbrev given : List ℕ → ℕ → ℕ → List ℕ
-given x n d = take (descriptorPlace n d + 112 - descriptorPlace n d) (drop (descriptorPlace n d) x)
-
--- past the image stands 0
-number-past : (x : List ℕ) (at : ℕ) → length x < at + 8 → numberAt x at ≡ 0
-unfolding numberAt
-number-past x at h = rw (lt-leb _ _ h)
-
-store-past : (x : List ℕ) (at v : ℕ) → length x < at + 8 → x ≡ withNumber x at v
-unfolding withNumber
-store-past x at v h = rw (lt-leb _ _ h)
-
-module _ (x : List ℕ) (a : ℕ) where
-  pub word-here : (u : ℕ) (s : Sort) → u ≡ numberAt x (8 * a) → s ≡ sortOf u → s ≡ wordOf x a
-  word-here u s e f = f ∙ rw e
-
-  pub word-past : (s : Sort) → length x / 8 ≤ a → s ≡ sortOf 0 → s ≡ wordOf x a
-  word-past s h f = let l : length x < 8 * a + 8 = omega arith in f ∙ rw (number-past x (8 * a) l)
-
-  pub put-here : (s : Sort) (v : ℕ) (y : List ℕ) → v ≡ wordNumber s → y ≡ withNumber x (8 * a) v → y ≡ withWord x a s
-  put-here s v y e f = f ∙ rw e
-
-  pub put-past : (s : Sort) → length x / 8 ≤ a → x ≡ withWord x a s
-  put-past s h = store-past x (8 * a) _ (omega arith)
-
-pub look-law : (x : List ℕ) (n d i c u : ℕ) (e : Entry) (w : Sort) (s : Status) → e ≡ entryIn (given x n d) i → w ≡ wordOf x (e .address)
-    → u ≡ numberAt (given x n d) 0 → s ≡ statusOf u → c ≡ numberAt (given x n d) 8
-    → _≡_ {A = Seen} (record { status = s; count = c; entry = e; word = w }) (seenIn x n d i)
-unfolding seenIn
-look-law x n d i c u e w s f g h j l = rw (j, h, l, g, f, add-sub-cancel-left (descriptorPlace n d) 112)
-
-module _ (x : List ℕ) (n d : ℕ) (e : Effect) where
-  pub perform-word : (y : List ℕ) (a : ℕ) (s : Sort) → e ≡ StoreWord a s → y ≡ withWord x a s → y ≡ performedIn x n d e
-  perform-word y a s f g = g ∙ rw f
-
-  pub perform-status : (y : List ℕ) (v : ℕ) (s : Status) → e ≡ StoreStatus s → v ≡ statusNumber s → y ≡ withNumber x (descriptorPlace n d) v → y ≡ performedIn x n d e
-  perform-status y v s f h g = g ∙ rw (f, h)
-
-module _ (n : ℕ) (x : List ℕ) (d done : ℕ) (s : Seen) (q : RecoveryPlan) (e : s ≡ seenIn x n d (done / 2)) (f : q ≡ recoveryPlan d done s) where
-  pub step-bytes : (y : List ℕ) → y ≡ performedIn x n d (q .effect) → y ≡ imageAfter n x d done
-  unfolding imageAfter planIn
-  step-bytes y g = g ∙ rw (f, e)
-
-  pub step-place : (k : ℕ) (p : RecoveryPlace) → p ≡ placeAfter k d (q .next) → p ≡ placeThen n k x d done
-  unfolding placeThen planIn
-  step-place k p g = g ∙ rw (f, e)
-
--- every step leaves as many bytes
-performed-length : (x : List ℕ) (n d : ℕ) (e : Effect) → length (performedIn x n d e) ≡ length x
-performed-length x n d Nothing = refl
-performed-length x n d (StoreWord a s) = number-length x _ _
-performed-length x n d (BackWord a) = refl
-performed-length x n d (StoreStatus s) = number-length x _ _
-performed-length x n d BackStatus = refl
-performed-length x n d E.the-variants.BackBody = refl
-
-pub after-length : (n : ℕ) (x : List ℕ) (d done : ℕ) → length (imageAfter n x d done) ≡ length x
-unfolding imageAfter
-after-length n x d done = performed-length x n d (planIn x n d done .effect)
-
--- where recovery of k descriptors can stand: at one of them, with at most nine of its steps done
-abbrev pub Standing : ℕ → RecoveryPlace → Type 0
-Standing k Outside = Unit
-Standing k (At d done) = (d < k) × (done ≤ 9)
-
--- the steps then done at a descriptor
-abbrev Nine : More → Type 0
-Nine (Then s) = s ≤ 9
-Nine Done = Unit
-
-end-nine : (done : ℕ) → done ≤ 9 → Nine (endStep done .next)
-unfolding endStep
-end-nine done h = go (eqb (done % 2) 0) refl
-  where
-    go : (t : Bool) → eqb (done % 2) 0 ≡ t → Nine (endStep done .next)
-    go true e = let f : done % 2 ≡ 0 = eqb-true _ _ e in rw e (omega arith)
-    go false e = rw e tt
-
-entry-nine : (d done : ℕ) (s : Seen) → done < 8 → Nine (entryStep d done s .next)
-unfolding entryStep
-entry-nine d done s h = go (eqb (done % 2) 0) refl
-  where
-    go : (t : Bool) → eqb (done % 2) 0 ≡ t → Nine (entryStep d done s .next)
-    go true e = rw e (omega arith)
-    go false e = rw e (omega arith)
-
-live-nine : (d done : ℕ) (s : Seen) → done ≤ 9 → Nine (liveStep d done s .next)
-unfolding liveStep
-live-nine d done s h = go (ltb done 8) (ltb (done / 2) (s .count)) refl
-  where
-    go : (t u : Bool) → ltb done 8 ≡ t → Nine (cond (t && u) (entryStep d done s) (endStep done) .next)
-    go true true e = entry-nine d done s (ltb-true _ _ e)
-    go true false e = end-nine done h
-    go false u e = end-nine done h
-
-plan-nine : (d done : ℕ) (s : Seen) → done ≤ 9 → Nine (recoveryPlan d done s .next)
-unfolding recoveryPlan
-plan-nine d done s h = go (eqb done 0 && isFree (s .status))
-  where
-    go : (t : Bool) → Nine (cond t (record { effect = Nothing; next = Done }) (liveStep d done s) .next)
-    go true = tt
-    go false = live-nine d done s h
-
-place-standing : (k d : ℕ) (m : More) → d < k → Nine m → Standing k (placeAfter k d m)
-unfolding visitAfter
-place-standing k d (Then s) h l = (h, l)
-place-standing k d Done h l = go (ltb (suc d) k) refl
-  where
-    go : (t : Bool) → ltb (suc d) k ≡ t → Standing k (cond t (At (suc d) 0) Outside)
-    go true e = (ltb-true _ _ e, omega arith)
-    go false e = tt
-
-then-standing : (n k : ℕ) (x : List ℕ) (d done : ℕ) → d < k → done ≤ 9 → Standing k (placeThen n k x d done)
-unfolding placeThen planIn
-then-standing n k x d done h l = place-standing k d (planIn x n d done .next) h (plan-nine d done (seenIn x n d (done / 2)) l)
+use Rattle.image.specs.declared.recover.Visit.{Visit}
+use Rattle.image.specs.declared.recover.Visit.the-variants.{Over, Stopped}
+use Rattle.image.specs.Layout.{partOf}
+use Rattle.image.specs.Check.{badBody, imageRefusal}
+use Rattle.image.specs.CheckLaws.{accepted, sizes-small}
+use Rattle.image.specs.Good.{Good, good}
+use Rattle.image.specs.Stays.{Stands, Reached, begins, step-good, step-stands}
+use Rattle.image.specs.Recover.{planIn, imageAfter, placeThen, Ran, ran, oneMore, runFrom, Recovered, recovered, reported, recoverOf}
+use Rattle.image.specs.Visit.{Visited, visited, further, visitFrom}
 
 -- so many steps before these
 abbrev pub afterSteps : ℕ → Ran → Ran
 afterSteps s r = ran (r .bytes) (r .complete) (s + r .steps)
 
--- one step more: what is left to do from there on is what was left to do
-module _ (k : ℕ) (p : RecoveryPlace) (d done : ℕ) (f : p ≡ At d done) (h : Standing k p) where
-  pub stands-at : d < k
-  stands-at = (rw f at h) .0
+-- a visit leaves less of the allowance
+abbrev Less : ℕ → Visit → Type 0
+Less a (Over l) = l < a
+Less a Stopped = Unit
 
-  pub stands-done : done ≤ 9
-  stands-done = (rw f at h) .1
+less-more : (a : ℕ) (v : Visit) → Less a v → Less (suc a) v
+less-more a (Over l) h = omega arith
+less-more a Stopped h = tt
 
-  pub stands-on : (n : ℕ) (x : List ℕ) (q : RecoveryPlace) → q ≡ placeThen n k x d done → Standing k q
-  stands-on n x q e = rw e (then-standing n k x d done stands-at stands-done)
+visit-less : (a n : ℕ) (x : List ℕ) (d done : ℕ) → Less a (visitFrom a n x d done .result)
+unfolding visitFrom
+visit-less zero n x d done = tt
+visit-less (suc a) n x d done = go (planIn x n d done .next) (λ s. visit-less a n (imageAfter n x d done) d s)
+  where
+    go : (m : More) → ((s : ℕ) → Less a (visitFrom a n (imageAfter n x d done) d s .result))
+        → Less (suc a) (further m a (imageAfter n x d done) (λ s. visitFrom a n (imageAfter n x d done) d s) .result)
+    go (Then s) rest = less-more a (visitFrom a n (imageAfter n x d done) d s .result) (rest s)
+    go Done rest = omega arith
 
-pub sized-on : (n k : ℕ) (x y : List ℕ) (d done : ℕ) → Sized n k x → y ≡ imageAfter n x d done → Sized n k y
-sized-on n k x y d done h e = record { words = h .words; descriptors = h .descriptors; bytes = rw e (after-length n x d done ∙ h .bytes) }
+-- the rest of a run after a visit of d
+abbrev restAfter : ℕ → ℕ → ℕ → ℕ → List ℕ → Visit → Ran
+restAfter n k d a x (Over l) = afterSteps (a - l) (runFrom l n k x (visitAfter d k))
+restAfter n k d a x Stopped = ran x false a
 
-pub goes-on : (n k : ℕ) (x y : List ℕ) (p q : RecoveryPlace) (d done allowance left : ℕ) (r : Ran) → p ≡ At d done → y ≡ imageAfter n x d done → q ≡ placeThen n k x d done
-    → 0 < left → left ≤ allowance → afterSteps (allowance - left) (runFrom left n k x p) ≡ r → afterSteps (allowance - (left - 1)) (runFrom (left - 1) n k y q) ≡ r
-unfolding runFrom
-goes-on n k x y p q d done allowance zero r f h i l m e = absurd (omega arith)
-goes-on n k x y p q d done allowance (suc a) r f h i l m e =
-    let z : suc a - 1 ≡ a = omega arith in
-    let rest = runFrom a n k (imageAfter n x d done) (placeThen n k x d done) in
-    let v : allowance - suc a + suc (rest .steps) ≡ allowance - a + rest .steps = omega arith in
-    rw (z, h, i, ← v) (rw f at e)
+one-after : (n k d a : ℕ) (x : List ℕ) (v : Visit) → Less a v → oneMore (restAfter n k d a x v) ≡ restAfter n k d (suc a) x v
+one-after n k d a x (Over l) h =
+    let r = runFrom l n k x (visitAfter d k) in
+    let z : suc (a - l + r .steps) ≡ suc a - l + r .steps = omega arith in
+    rw z
+one-after n k d a x Stopped h = refl
 
-module _ (n k : ℕ) (x : List ℕ) (p : RecoveryPlace) (allowance left : ℕ) (r : Ran) (e : afterSteps (allowance - left) (runFrom left n k x p) ≡ r) where
-  -- recovery is complete
-  pub stops : p ≡ Outside → 0 < left → recovered x (record { answer = 0; steps = allowance - left }) ≡ reported r
-  unfolding runFrom
-  stops f l = go left l e
-    where
-      go : (a : ℕ) → 0 < a → afterSteps (allowance - left) (runFrom a n k x p) ≡ r → recovered x (record { answer = 0; steps = allowance - left }) ≡ reported r
-      go zero m h = absurd (omega arith)
-      go (suc a) m h = let z : allowance - left + 0 ≡ allowance - left = omega arith in ap reported (rw (f, z) at h)
+run-visit : (a n k : ℕ) (x : List ℕ) (d done : ℕ) → runFrom a n k x (At d done) ≡ restAfter n k d a (visitFrom a n x d done .bytes) (visitFrom a n x d done .result)
+unfolding runFrom visitFrom placeThen
+run-visit zero n k x d done = refl
+run-visit (suc a) n k x d done = go (planIn x n d done .next) (λ s. run-visit a n k (imageAfter n x d done) d s)
+  where
+    go : (m : More)
+        → ((s : ℕ) → runFrom a n k (imageAfter n x d done) (At d s)
+        ≡ restAfter n k d a (visitFrom a n (imageAfter n x d done) d s .bytes) (visitFrom a n (imageAfter n x d done) d s .result))
+        → oneMore (runFrom a n k (imageAfter n x d done) (placeAfter k d m))
+        ≡ restAfter n k d (suc a) (further m a (imageAfter n x d done) (λ s. visitFrom a n (imageAfter n x d done) d s) .bytes)
+        (further m a (imageAfter n x d done) (λ s. visitFrom a n (imageAfter n x d done) d s) .result)
+    go (Then s) rest =
+        ap oneMore (rest s)
+        ∙ one-after n k d a (visitFrom a n (imageAfter n x d done) d s .bytes) (visitFrom a n (imageAfter n x d done) d s .result)
+        (visit-less a n (imageAfter n x d done) d s)
+    go Done rest =
+        let r = runFrom a n k (imageAfter n x d done) (visitAfter d k) in
+        let z : suc a - a + r .steps ≡ suc (r .steps) = omega arith in
+        rw z
+
+-- an accepted image stays so
+visit-good : (a n k : ℕ) (x : List ℕ) (d done : ℕ) → Good n k x → Reached n k x d done → Good n k (visitFrom a n x d done .bytes)
+unfolding visitFrom placeThen
+visit-good zero n k x d done g r = g
+visit-good (suc a) n k x d done g r =
+    go (planIn x n d done .next) (step-stands n k x d done g r) (λ s q. visit-good a n k (imageAfter n x d done) d s (step-good n k x d done g r) q)
+  where
+    go : (m : More) → Stands n k (imageAfter n x d done) (placeAfter k d m)
+        → ((s : ℕ) → Reached n k (imageAfter n x d done) d s → Good n k (visitFrom a n (imageAfter n x d done) d s .bytes))
+        → Good n k (further m a (imageAfter n x d done) (λ s. visitFrom a n (imageAfter n x d done) d s) .bytes)
+    go (Then s) q rest = rest s q
+    go Done q rest = step-good n k x d done g r
+
+-- where recovery of k descriptors stands before it visits d
+abbrev pub before : ℕ → ℕ → RecoveryPlace
+before k d = cond (ltb d k) (At d 0) Outside
+
+visit-before : (k d : ℕ) → visitAfter d k ≡ before k (d + 1)
+unfolding visitAfter
+visit-before k d = let z : d + 1 ≡ suc d = omega arith in rw z
+
+module _ (n k : ℕ) (x : List ℕ) (g : Good n k x) (d : ℕ) (h : d < k) where
+  pub visit-fits : 8 * n + 112 * d + 112 ≤ length x
+  visit-fits = let e = g .sized .bytes in omega arith
+
+  pub visit-body : badBody n (partOf x n d) ≡ false
+  visit-body = g .bodies d h
+
+  pub visit-kept : (left : ℕ) (y : List ℕ) (v : Visit) → visited y v ≡ visitFrom left n x d 0 → Good n k y
+  visit-kept left y v e = rw (ap (λ (r : Visited). r .bytes) e) (visit-good left n k x d 0 g (begins n k x d h))
+
+module _ (n k : ℕ) (x : List ℕ) (d left : ℕ) (y : List ℕ) (v : Visit) (h : d < k) (e : visited y v ≡ visitFrom left n x d 0) where
+  whole : runFrom left n k x (before k d) ≡ restAfter n k d left y v
+  whole =
+      let p : visitFrom left n x d 0 .bytes ≡ y = ap (λ (r : Visited). r .bytes) (sym e) in
+      let q : visitFrom left n x d 0 .result ≡ v = ap (λ (r : Visited). r .result) (sym e) in
+      rw (lt-ltb d k h) (run-visit left n k x d 0 ∙ rw (p, q))
+
+  fewer : Less left v
+  fewer = rw (ap (λ (r : Visited). r .result) e) (visit-less left n x d 0)
+
+  -- the visit is over
+  module _ (l : ℕ) (f : v ≡ Over l) where
+    goes-less : l < left
+    goes-less = rw f at fewer
+
+    pub goes-within : (allowance : ℕ) → left ≤ allowance → l ≤ allowance
+    goes-within allowance o = let j = goes-less in omega arith
+
+    pub goes-on : (allowance : ℕ) (r : Ran) → left ≤ allowance → afterSteps (allowance - left) (runFrom left n k x (before k d)) ≡ r
+        → afterSteps (allowance - l) (runFrom l n k y (before k (d + 1))) ≡ r
+    goes-on allowance r o i =
+        let s = runFrom l n k y (before k (d + 1)) in
+        let j = goes-less in
+        let z : allowance - left + (left - l + s .steps) ≡ allowance - l + s .steps = omega arith in
+        let w : runFrom left n k x (before k d) ≡ afterSteps (left - l) s = whole ∙ rw (f, visit-before k d) in
+        rw (← z) (rw w at i)
 
   -- the allowance is used up
-  pub goes-out : (t : ℕ) → left ≤ 0 → t ≡ answerFor (isOutside p) → recovered x (record { answer = t; steps = allowance - left }) ≡ reported r
-  unfolding runFrom
-  goes-out t l f =
-      let y : left ≡ 0 = omega arith in
-      let z : allowance - left + 0 ≡ allowance - left = omega arith in
-      let h : afterSteps (allowance - left) (ran x (isOutside p) 0) ≡ r = go left y e in
-      rw f (ap reported (rw z at h))
-    where
-      go : (a : ℕ) → a ≡ 0 → afterSteps (allowance - left) (runFrom a n k x p) ≡ r → afterSteps (allowance - left) (ran x (isOutside p) 0) ≡ r
-      go zero m h = h
-      go (suc a) m h = absurd (omega arith)
+  pub stops : (allowance : ℕ) (r : Ran) → v ≡ Stopped → left ≤ allowance → afterSteps (allowance - left) (runFrom left n k x (before k d)) ≡ r
+      → recovered y (record { answer = 256; steps = allowance }) ≡ reported r
+  stops allowance r f o i =
+      let z : allowance - left + left ≡ allowance = omega arith in
+      let w : runFrom left n k x (before k d) ≡ ran y false left = whole ∙ rw f in
+      ap reported (rw (w, z) at i)
 
-pub goes-in : (n k : ℕ) (x : List ℕ) (p : RecoveryPlace) (allowance : ℕ) → afterSteps (allowance - allowance) (runFrom allowance n k x p) ≡ runFrom allowance n k x p
-goes-in n k x p allowance =
-    let r = runFrom allowance n k x p in
+pub goes-in : (n k : ℕ) (x : List ℕ) (allowance : ℕ) → 0 < k → afterSteps (allowance - allowance) (runFrom allowance n k x (before k 0)) ≡ runFrom allowance n k x (At 0 0)
+goes-in n k x allowance h =
+    let r = runFrom allowance n k x (At 0 0) in
     let z : allowance - allowance + r .steps ≡ r .steps = omega arith in
-    rw z
+    rw (lt-ltb 0 k h, z)
+
+-- all are visited
+run-outside : (a n k : ℕ) (x : List ℕ) → runFrom a n k x Outside ≡ ran x true 0
+unfolding runFrom
+run-outside zero n k x = refl
+run-outside (suc a) n k x = refl
+
+pub goes-out : (n k : ℕ) (x : List ℕ) (d allowance left : ℕ) (r : Ran) → k ≤ d → afterSteps (allowance - left) (runFrom left n k x (before k d)) ≡ r
+    → recovered x (record { answer = 0; steps = allowance - left }) ≡ reported r
+goes-out n k x d allowance left r h i =
+    let z : allowance - left + 0 ≡ allowance - left = omega arith in
+    ap reported (rw (le-ltb d k h, run-outside left n k x, z) at i)
 
 -- refused, or run
 pub refused : (n k : ℕ) (x : List ℕ) (allowance r : ℕ) → r ≡ imageRefusal n k x → (r ≡ 0 → ⊥) → recovered x (record { answer = r; steps = 0 }) ≡ recoverOf n k x allowance
@@ -216,8 +172,8 @@ module _ (n k : ℕ) (x : List ℕ) (r : ℕ) (e : r ≡ imageRefusal n k x) (f 
   unfolding recoverOf
   runs allowance q g = g ∙ rw (← e, f)
 
-  pub sized : Sized n k x
-  sized = accepted-sized n k x (accepted n k x (sym e ∙ f))
+  pub is-good : Good n k x
+  is-good = good n k x (accepted n k x (sym e ∙ f))
 
   pub some : 0 < k
   some = sizes-small n k (accepted n k x (sym e ∙ f) .sizes) .1 .1 .0

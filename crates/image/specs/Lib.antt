@@ -1,6 +1,8 @@
 pub mod Layout
 pub mod Check
 pub mod Recover
+pub mod Visit
+pub mod Claims
 pub mod CheckLaws
 pub mod Coincide
 pub mod LayoutLaws

@@ -1,15 +1,16 @@
-// The checks of an image, in their order, each over the whole image before the next.
+// The checks of an image. One pass over the descriptors finds whether 21 or 22 holds, one over the words whether 23 or 24 does; which of the two is looked for
+// only then, the earlier one over the whole image first.
+use crate::claim::claimed;
 use crate::part::body_bad;
-use crate::part::lacks;
 use crate::part::status_bad;
 use little::read_u64;
 use word::Sort;
 use word::sort_of;
 ghost use mathlib.Core.Path.{_≡_};
-ghost use mathlib.Core.Bool.{false};
 ghost use Prim.Native.Nat.{_<_, _≤_};
 ghost use Rattle.image.specs.Layout as L;
 ghost use Rattle.image.specs.Check as C;
+ghost use Rattle.image.specs.Claims as M;
 
 // 1.
 fn sizes_bad(n: u64, k: u64) -> bool
@@ -44,16 +45,20 @@ fn statuses_bad(n: u64, k: u64, image: &[u8]) -> bool
     false
 }
 
-// 22, over all descriptors.
-fn bodies_bad(n: u64, k: u64, image: &[u8]) -> bool
+// 21 or 22, over all descriptors.
+fn descriptors_bad(n: u64, k: u64, image: &[u8]) -> bool
     requires { ⌜ L.Sized n k (now image) ⌝ }
-    ensures { λ r. ⌜ r ≡ C.badBodies n k (now (image .entry)) ⌝ }
+    ensures { λ r. ⌜ r ≡ M.badDescriptors n k (now (image .entry)) ⌝ }
 {
     let mut d = 0;
     while d < k {
         let from = (8 * n + 112 * d) as usize;
         let to = from + 112;
-        if body_bad(n, &image[from..to]) {
+        let part = &image[from..to];
+        if status_bad(part) {
+            return true;
+        }
+        if body_bad(n, part) {
             return true;
         }
         d = d + 1;
@@ -86,39 +91,25 @@ fn words_bad(n: u64, image: &[u8]) -> bool
     false
 }
 
-// 24: the descriptor that a pointer at address a names.
-fn target_bad(n: u64, k: u64, image: &[u8], a: u64, d: u64) -> bool
-    requires { ⌜ L.Sized n k (now image) × (C.badBodies n k (now image) ≡ false) ⌝ }
-    ensures { λ r. ⌜ r ≡ C.badTarget n k (now (image .entry)) a d ⌝ }
-{
-    if k <= d {
-        return true;
-    }
-    let from = (8 * n + 112 * d) as usize;
-    let to = from + 112;
-    lacks(n, &image[from..to], a)
-}
-
-fn pointer_bad(n: u64, k: u64, image: &[u8], a: u64, s: Sort) -> bool
-    requires { ⌜ L.Sized n k (now image) × (C.badBodies n k (now image) ≡ false) ⌝ }
-    ensures { λ r. ⌜ r ≡ C.badPointer n k (now (image .entry)) a s ⌝ }
+fn marked_bad(mark: bool, s: Sort) -> bool
+    ensures { λ r. ⌜ r ≡ M.badMarked mark s ⌝ }
 {
     match s {
         Sort::Plain(_, _) => false,
-        Sort::Pointer(d, _) => target_bad(n, k, image, a, d),
-        Sort::Neither(_) => false,
+        Sort::Pointer(_, _) => !mark,
+        Sort::Neither(_) => true,
     }
 }
 
-// 24, over all words.
-fn pointers_bad(n: u64, k: u64, image: &[u8]) -> bool
-    requires { ⌜ L.Sized n k (now image) × (C.badBodies n k (now image) ≡ false) ⌝ }
-    ensures { λ r. ⌜ r ≡ C.badPointers n k (now (image .entry)) ⌝ }
+// 23 or 24, over all words.
+fn markeds_bad(n: u64, image: &[u8], marks: &[bool; 64]) -> bool
+    requires { ⌜ n ≤ 64 ⌝ }
+    ensures { λ r. ⌜ r ≡ M.badMarkeds n (now (image .entry)) (now (marks .entry)) ⌝ }
 {
     let mut a = 0;
     while a < n {
         let s = sort_of(read_u64(image, 8 * a as usize));
-        if pointer_bad(n, k, image, a, s) {
+        if marked_bad(marks[a as usize], s) {
             return true;
         }
         a = a + 1;
@@ -134,16 +125,17 @@ fn content_refusal(n: u64, k: u64, image: &[u8]) -> u64
     if image.len() as u64 != 8 * n + 112 * k {
         return 20;
     }
-    if statuses_bad(n, k, image) {
-        return 21;
-    }
-    if bodies_bad(n, k, image) {
+    if descriptors_bad(n, k, image) {
+        if statuses_bad(n, k, image) {
+            return 21;
+        }
         return 22;
     }
-    if words_bad(n, image) {
-        return 23;
-    }
-    if pointers_bad(n, k, image) {
+    let marks = claimed(n, k, image);
+    if markeds_bad(n, image, &marks) {
+        if words_bad(n, image) {
+            return 23;
+        }
         return 24;
     }
     0

@@ -1,5 +1,6 @@
 // Recovery of a memory image, for the C runtime (document 01, "Images for the C runtime").
 mod check;
+mod claim;
 mod part;
 mod recover;
 

@@ -4,7 +4,6 @@ use steps::Entry;
 use word::Status;
 use word::status_of;
 ghost use mathlib.Core.Path.{_≡_};
-ghost use mathlib.Core.Bool.{false, not, _||_};
 ghost use Prim.Native.Nat.{_<_, _≤_};
 ghost use Rattle.steps.specs.Plan.{isFree};
 ghost use Rattle.image.specs.Layout as L;
@@ -50,13 +49,7 @@ pub(crate) fn entry_in(part: &[u8], i: u64) -> Entry
 fn entry_bad(n: u64, e: Entry) -> bool
     ensures { λ r. ⌜ r ≡ C.badEntry n e ⌝ }
 {
-    if n <= e.address {
-        return true;
-    }
-    if 1 << 61 <= e.expected {
-        return true;
-    }
-    1 << 61 <= e.desired
+    (n <= e.address) | ((1 << 61 <= e.expected) | (1 << 61 <= e.desired))
 }
 
 // Entry i, and its address against the one before it.
@@ -65,14 +58,12 @@ fn bad_at(n: u64, part: &[u8], i: u64) -> bool
     ensures { λ r. ⌜ r ≡ C.badAt n (now (part .entry)) i ⌝ }
 {
     let e = entry_in(part, i);
-    if entry_bad(n, e) {
-        return true;
-    }
+    let bad = entry_bad(n, e);
     if i == 0 {
-        return false;
+        return bad;
     }
     let before = entry_in(part, i - 1);
-    e.address <= before.address
+    bad | (e.address <= before.address)
 }
 
 fn entries_bad(n: u64, part: &[u8], count: u64) -> bool
@@ -104,31 +95,4 @@ pub(crate) fn body_bad(n: u64, part: &[u8]) -> bool
         return true;
     }
     entries_bad(n, part, count)
-}
-
-// The first so many entries have the address.
-fn has_address(part: &[u8], entries: u64, a: u64) -> bool
-    requires { ⌜ entries ≤ 4 ⌝ }
-    ensures { λ r. ⌜ r ≡ C.hasWithin (now (part .entry)) entries a ⌝ }
-{
-    let mut i = 0;
-    while i < entries {
-        let e = entry_in(part, i);
-        if e.address == a {
-            return true;
-        }
-        i = i + 1;
-    }
-    false
-}
-
-// 24: a Free descriptor, or one without that address. Check 22 has passed its body.
-pub(crate) fn lacks(n: u64, part: &[u8], a: u64) -> bool
-    requires { ⌜ C.badBody n (now part) ≡ false ⌝ }
-    ensures { λ r. ⌜ r ≡ (isFree (L.statusIn (now (part .entry))) || not (C.hasAddress (now (part .entry)) a)) ⌝ }
-{
-    if is_free(part) {
-        return true;
-    }
-    !has_address(part, read_u64(part, 8), a)
 }

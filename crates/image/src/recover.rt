@@ -1,119 +1,117 @@
-// Recovery of an image that the checks have passed: one step a turn, while the allowance lasts.
+// Recovery of an image that the checks have passed, descriptor by descriptor, while the allowance lasts.
 use crate::Recovery;
-use crate::part::entry_in;
+use crate::claim::points_to;
 use little::read_u64;
 use little::write_u64;
-use machine::place_after;
-use steps::Effect;
-use steps::RecoveryPlace;
-use steps::Seen;
-use steps::recovery_plan;
-use word::Sort;
-use word::Status;
-use word::sort_of;
-use word::status_number;
-use word::status_of;
-use word::word_number;
 ghost use mathlib.Core.Path.{_≡_};
-ghost use Prim.Native.Nat.{_<_, _≤_, _+_, _*_};
+ghost use mathlib.Core.Bool.{false};
+ghost use Prim.Native.Nat.{_<_, _≤_, _+_, _*_, _^_};
 ghost use lib.ListN.{length};
+ghost use Rattle.word.specs.Status.{statusOf};
 ghost use Rattle.steps.specs.declared.RecoveryPlace.the-variants.{At};
+ghost use Rattle.little.specs.Number.{numberAt};
 ghost use Rattle.image.specs.Layout as L;
+ghost use Rattle.image.specs.Check as C;
+ghost use Rattle.image.specs.Good as G;
+ghost use Rattle.image.specs.Visit as D;
 ghost use Rattle.image.specs.Recover as R;
 
-// The word at any address: past the image stands 0.
-fn word_at(image: &[u8], a: u64) -> Sort
-    ensures { λ r. ⌜ r ≡ L.wordOf (now (image .entry)) a ⌝ }
-{
-    if a < image.len() as u64 / 8 {
-        return sort_of(read_u64(image, 8 * a as usize));
-    }
-    sort_of(0)
+const DIRTY: u64 = 1 << 63;
+
+// What a descriptor's steps leave of the allowance; or it was used up before they were over.
+enum Visit {
+    Over(u64),
+    Stopped,
 }
 
-fn put_word(image: &mut [u8], a: u64, s: Sort)
-    ensures { λ _. ⌜ now (image .exit) ≡ L.withWord (now (image .entry)) a s ⌝ }
+// A word at a that points to d becomes v, not dirty.
+fn settle(image: &mut [u8], d: u64, a: u64, v: u64)
+    requires { ⌜ (a < 64) × ((d < 16) × (v < 2 ^ 61)) ⌝ }
+    ensures { λ _. ⌜ now (image .exit) ≡ D.settled (now (image .entry)) d a v ⌝ }
 {
-    if a < image.len() as u64 / 8 {
-        write_u64(image, 8 * a as usize, word_number(s));
+    if points_to(image, a, d) {
+        write_u64(image, 8 * a as usize, v);
     }
 }
 
-// What a step at entry i of d looks at: its descriptor's part, and the word that the entry names.
-fn look(n: u64, image: &[u8], d: u64, i: u64) -> Seen
-    requires { ⌜ ((n ≤ 64) × (d < 16)) × ((8 * n + 112 * d + 112 ≤ length (now image)) × (i ≤ 4)) ⌝ }
-    ensures { λ r. ⌜ r ≡ R.seenIn (now (image .entry)) n d i ⌝ }
+// Desired where the status is Succeeded, dirty or not; else expected.
+fn value_place(status: u64) -> usize
+    ensures { λ r. ⌜ (r ≡ D.valuePlace (statusOf status)) × (r ≤ 32) ⌝ }
+{
+    if status % DIRTY == 2 {
+        return 32;
+    }
+    24
+}
+
+// A live descriptor: each entry's word and its write-back, then Free and its write-back. A write-back alters no byte.
+fn visit_live(n: u64, image: &mut [u8], d: u64, left: u64, status: u64) -> Visit
+    requires { ⌜ ((n ≤ 64) × (d < 16)) × ((8 * n + 112 * d + 112 ≤ length (now image)) × ((C.badBody n (L.partOf (now image) n d) ≡ false) × ((status ≡ numberAt (L.partOf (now image) n d) 0) × (0 < status)))) ⌝ }
+    ensures { λ r. ⌜ D.visited (now (image .exit)) r ≡ D.visitFrom left n (now (image .entry)) d 0 ⌝ }
 {
     let from = (8 * n + 112 * d) as usize;
     let to = from + 112;
-    let part = &image[from..to];
-    let entry = entry_in(part, i);
-    let word = word_at(image, entry.address);
-    let status = status_of(read_u64(part, 0));
-    Seen {
-        status,
-        count: read_u64(part, 8),
-        entry,
-        word,
+    let count = read_u64(&image[from..to], 8);
+    let value = value_place(status);
+    let mut i = 0;
+    while i < count {
+        if left <= 2 * i {
+            return Visit::Stopped;
+        }
+        let at = 24 * i as usize;
+        let part = &image[from..to];
+        let a = read_u64(part, 16 + at);
+        let v = read_u64(part, value + at);
+        settle(image, d, a, v);
+        i = i + 1;
     }
+    if left <= 2 * count {
+        return Visit::Stopped;
+    }
+    write_u64(image, from, 0);
+    if left < 2 * count + 2 {
+        return Visit::Stopped;
+    }
+    Visit::Over(left - (2 * count + 2))
 }
 
-// The one effect of a step; a write-back alters no byte.
-fn perform(n: u64, image: &mut [u8], d: u64, e: Effect)
-    requires { ⌜ (n ≤ 64) × (d < 16) ⌝ }
-    ensures { λ _. ⌜ now (image .exit) ≡ R.performedIn (now (image .entry)) n d e ⌝ }
+// A Free descriptor takes one step, which alters no byte.
+fn visit_any(n: u64, image: &mut [u8], d: u64, left: u64) -> Visit
+    requires { ⌜ ((n ≤ 64) × (d < 16)) × ((8 * n + 112 * d + 112 ≤ length (now image)) × (C.badBody n (L.partOf (now image) n d) ≡ false)) ⌝ }
+    ensures { λ r. ⌜ D.visited (now (image .exit)) r ≡ D.visitFrom left n (now (image .entry)) d 0 ⌝ }
 {
-    match e {
-        Effect::Nothing => {}
-        Effect::StoreWord(a, s) => put_word(image, a, s),
-        Effect::BackWord(_) => {}
-        Effect::StoreStatus(s) => write_u64(image, (8 * n + 112 * d) as usize, status_number(s)),
-        Effect::BackStatus => {}
-        Effect::BackBody => {}
+    if left == 0 {
+        return Visit::Stopped;
     }
-}
-
-// One step at descriptor d, `done` of its steps done; where recovery stands then.
-fn step(n: u64, k: u64, image: &mut [u8], d: u64, done: u64) -> RecoveryPlace
-    requires { ⌜ L.Sized n k (now image) × ((d < k) × (done ≤ 9)) ⌝ }
-    ensures { λ r. ⌜ (now (image .exit) ≡ R.imageAfter n (now (image .entry)) d done) × (r ≡ R.placeThen n k (now (image .entry)) d done) ⌝ }
-{
-    let seen = look(n, image, d, done / 2);
-    let q = recovery_plan(d, done, seen);
-    let effect = q.effect;
-    let next = q.next;
-    perform(n, image, d, effect);
-    place_after(k, d, next)
-}
-
-fn answer_for(p: RecoveryPlace) -> u64
-    ensures { λ r. ⌜ r ≡ R.answerFor (R.isOutside p) ⌝ }
-{
-    match p {
-        RecoveryPlace::Outside => 0,
-        RecoveryPlace::At(_, _) => 256,
+    let from = (8 * n + 112 * d) as usize;
+    let to = from + 112;
+    let status = read_u64(&image[from..to], 0);
+    if status == 0 {
+        return Visit::Over(left - 1);
     }
+    visit_live(n, image, d, left, status)
 }
 
 // At most so many steps, from descriptor 0.
 pub(crate) fn run(n: u64, k: u64, image: &mut [u8], allowance: u64) -> Recovery
-    requires { ⌜ L.Sized n k (now image) × (0 < k) ⌝ }
+    requires { ⌜ G.Good n k (now image) × (0 < k) ⌝ }
     ensures { λ r. ⌜ R.recovered (now (image .exit)) r ≡ R.reported (R.runFrom allowance n k (now (image .entry)) (At 0 0)) ⌝ }
 {
-    let mut place = RecoveryPlace::At(0, 0);
+    let mut d = 0;
     let mut left = allowance;
-    while 0 < left {
-        let RecoveryPlace::At(d, done) = place else {
+    while d < k {
+        let r = visit_any(n, image, d, left);
+        let Visit::Over(l) = r else {
             return Recovery {
-                answer: 0,
-                steps: allowance - left,
+                answer: 256,
+                steps: allowance,
             };
         };
-        place = step(n, k, image, d, done);
-        left = left - 1;
+        left = l;
+        d = d + 1;
     }
     Recovery {
-        answer: answer_for(place),
+        answer: 0,
         steps: allowance - left,
     }
 }

@@ -1,13 +1,23 @@
 // A number of eight bytes, the lowest first, at a place of a slice. Where the eight bytes do not all lie in the slice,
 // 0 is read, and a store changes nothing.
 ghost use mathlib.Core.Path.{_≡_};
-ghost use Prim.Native.Nat.{_<_};
-ghost use Rattle.little.specs.Number.{numberAt, withNumber};
+ghost use Prim.Native.Nat.{_<_, _≤_, _+_};
+ghost use lib.ListN.{length, take, drop};
+ghost use Rattle.little.specs.Number.{numberOf, numberAt, withNumber};
 
 fn wide(x: u8) -> u64
     ensures { λ r. ⌜ (r ≡ x) × (r < 256) ⌝ }
 {
     x as u64
+}
+
+// Four bytes of a slice: two of these at known places of eight bytes are compiled to one load.
+fn four(s: &[u8], at: usize) -> u64
+    requires { ⌜ at + 4 ≤ length (now s) ⌝ }
+    ensures { λ r. ⌜ (r ≡ numberOf (take 4 (drop at (now (s .entry))))) × (r < 4294967296) ⌝ }
+{
+    let low = wide(s[at]) + 256 * wide(s[at + 1]);
+    low + 65536 * wide(s[at + 2]) + 16777216 * wide(s[at + 3])
 }
 
 pub fn read_u64(s: &[u8], at: usize) -> u64
@@ -19,10 +29,9 @@ pub fn read_u64(s: &[u8], at: usize) -> u64
     if s.len() - 8 < at {
         return 0;
     }
-    let high = wide(s[at + 4])
-        + 256 * (wide(s[at + 5]) + 256 * (wide(s[at + 6]) + 256 * wide(s[at + 7])));
-    wide(s[at])
-        + 256 * (wide(s[at + 1]) + 256 * (wide(s[at + 2]) + 256 * (wide(s[at + 3]) + 256 * high)))
+    let to = at + 8;
+    let eight = &s[at..to];
+    four(eight, 0) + 4294967296 * four(eight, 4)
 }
 
 pub fn write_u64(s: &mut [u8], at: usize, v: u64)

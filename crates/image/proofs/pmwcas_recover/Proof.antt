@@ -1,4 +1,4 @@
-use Rattle.image.proofs.RunLaws.{refused, runs, sized, some}
+use Rattle.image.proofs.RunLaws.{refused, runs, is-good, some}
 use borrow.Author.Needs.{needs}
 use Rattle.image.proofs.pmwcas_recover.Statement.{statement}
 use Rattle.image.proofs.pmwcas_recover.Tie as tie
@@ -13,7 +13,7 @@ returns : tie.Need-returns
 returns c = search (needs, refused)
 
 run-requires : tie.Need-run-requires
-run-requires c κs = (search (needs, sized), search (needs, some))
+run-requires c κs = (search (needs, is-good), search (needs, some))
 
 same-length-2 : tie.Need-same-length-2
 same-length-2 c = search needs

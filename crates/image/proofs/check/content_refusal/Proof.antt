@@ -1,4 +1,4 @@
-use Rattle.image.proofs.ImageLaws.{refuse-length, refuse-status, refuse-body, refuse-word, refuse-pointer, refuse-none}
+use Rattle.image.proofs.ImageLaws.{refuse-length, refuse-status, refuse-body, no-body, refuse-word, refuse-pointer, refuse-none}
 use borrow.Author.Needs.{needs}
 use Rattle.image.proofs.check.content_refusal.Statement.{statement}
 use Rattle.image.proofs.check.content_refusal.Tie as tie
@@ -15,26 +15,29 @@ add-if1 c = search needs
 returns : tie.Need-returns
 returns c = search (needs, refuse-length)
 
+descriptors-bad-requires : tie.Need-descriptors-bad-requires
+descriptors-bad-requires c κs = search needs
+
 statuses-bad-requires : tie.Need-statuses-bad-requires
 statuses-bad-requires c κs = search needs
 
 returns-2 : tie.Need-returns-2
 returns-2 c = search (needs, refuse-status)
 
-bodies-bad-requires : tie.Need-bodies-bad-requires
-bodies-bad-requires c κs = search needs
-
 returns-3 : tie.Need-returns-3
 returns-3 c = search (needs, refuse-body)
+
+claimed-requires : tie.Need-claimed-requires
+claimed-requires c κs = (search needs, search (needs, no-body))
+
+markeds-bad-requires : tie.Need-markeds-bad-requires
+markeds-bad-requires c κs = search needs
 
 words-bad-requires : tie.Need-words-bad-requires
 words-bad-requires c κs = search needs
 
 returns-4 : tie.Need-returns-4
 returns-4 c = search (needs, refuse-word)
-
-pointers-bad-requires : tie.Need-pointers-bad-requires
-pointers-bad-requires c κs = (search needs, cc)
 
 returns-5 : tie.Need-returns-5
 returns-5 c = search (needs, refuse-pointer)
@@ -50,12 +53,13 @@ content-refusal-spec =
     mul-if1-2
     add-if1
     returns
+    descriptors-bad-requires
     statuses-bad-requires
     returns-2
-    bodies-bad-requires
     returns-3
+    claimed-requires
+    markeds-bad-requires
     words-bad-requires
     returns-4
-    pointers-bad-requires
     returns-5
     returns-6)

@@ -1,4 +1,4 @@
-use Rattle.image.proofs.PartLaws.{at-entry, at-first, at-order}
+use Rattle.image.proofs.PartLaws.{at-first, at-order}
 use borrow.Author.Needs.{needs}
 use Rattle.image.proofs.part.bad_at.Statement.{statement}
 use Rattle.image.proofs.part.bad_at.Tie as tie
@@ -10,10 +10,7 @@ entry-bad-requires : tie.Need-entry-bad-requires
 entry-bad-requires c κs = search needs
 
 returns : tie.Need-returns
-returns c = search (needs, at-entry)
-
-returns-2 : tie.Need-returns-2
-returns-2 c = search (needs, at-first)
+returns c = search (needs, at-first)
 
 sub-entry-in : tie.Need-sub-entry-in
 sub-entry-in c = search needs
@@ -21,8 +18,8 @@ sub-entry-in c = search needs
 entry-in-requires-2 : tie.Need-entry-in-requires-2
 entry-in-requires-2 c κs = search needs
 
-returns-3 : tie.Need-returns-3
-returns-3 c = search (needs, at-order)
+returns-2 : tie.Need-returns-2
+returns-2 c = search (needs, at-order)
 
 pub bad-at-spec : {M : Type 1} → statement M
 bad-at-spec =
@@ -31,7 +28,6 @@ bad-at-spec =
     entry-in-requires
     entry-bad-requires
     returns
-    returns-2
     sub-entry-in
     entry-in-requires-2
-    returns-3)
+    returns-2)

@@ -2,18 +2,19 @@ use mathlib.Core.Path.{_≡_, refl}
 use mathlib.Core.Bool.{false}
 use Prim.Native.Nat.{_≤_, _-_}
 use native.Mathlib.Omega.{arith}
-use Rattle.image.specs.Check.{someBelow, badPointerAt}
-use Rattle.image.specs.CheckLaws.{below-found, below-next, below-none}
-use Rattle.image.proofs.ImageLaws.{pointer-is}
+use Rattle.image.specs.Check.{someBelow}
+use Rattle.image.specs.CheckLaws.{below-none}
+use Rattle.image.specs.Claims.{badMarkeds}
+use Rattle.image.proofs.ImageLaws.{marked-found, marked-next}
 use borrow.Author.Needs.{needs}
-use Rattle.image.proofs.check.pointers_bad.Statement.{statement}
-use Rattle.image.proofs.check.pointers_bad.Tie as tie
+use Rattle.image.proofs.check.markeds_bad.Statement.{statement}
+use Rattle.image.proofs.check.markeds_bad.Tie as tie
 
 abbrev Inv-loop : tie.InvT-loop
-Inv-loop n k image a₀ a = (someBelow a (λ b. badPointerAt n k image b) ≡ false) × (a ≤ n)
+Inv-loop n image marks a₀ a = (badMarkeds a image marks ≡ false) × (a ≤ n)
 
 abbrev μ-loop : tie.MeasureT-loop
-μ-loop n k image a₀ a = n - a
+μ-loop n image marks a₀ a = n - a
 
 loop-holds : tie.Need-loop-holds Inv-loop μ-loop
 unfolding someBelow
@@ -28,11 +29,14 @@ read-u64-requires c κs = search needs
 sort-of-requires : tie.Need-sort-of-requires Inv-loop μ-loop
 sort-of-requires c κs = search needs
 
-pointer-bad-requires : tie.Need-pointer-bad-requires Inv-loop μ-loop
-pointer-bad-requires c κs = search needs
+element-copy-out-marked-bad : tie.Need-element-copy-out-marked-bad Inv-loop μ-loop
+element-copy-out-marked-bad c = search needs
+
+marked-bad-requires : tie.Need-marked-bad-requires Inv-loop μ-loop
+marked-bad-requires c κs = search needs
 
 returns : tie.Need-returns Inv-loop μ-loop
-returns c = search (needs, below-found, pointer-is)
+returns c = search (needs, marked-found)
 
 add-a : tie.Need-add-a Inv-loop μ-loop
 add-a c = search needs
@@ -41,13 +45,13 @@ loop-less : tie.Need-loop-less Inv-loop μ-loop
 loop-less c = search needs
 
 loop-again : tie.Need-loop-again Inv-loop μ-loop
-loop-again c = (search (needs, below-next, pointer-is), omega arith)
+loop-again c = (search (needs, marked-next), omega arith)
 
 returns-2 : tie.Need-returns-2 Inv-loop μ-loop
 returns-2 c = search (needs, below-none)
 
-pub pointers-bad-spec : {M : Type 1} → statement M
-pointers-bad-spec =
+pub markeds-bad-spec : {M : Type 1} → statement M
+markeds-bad-spec =
     tie.close
     (tie.spec
     Inv-loop
@@ -56,7 +60,8 @@ pointers-bad-spec =
     mul-read-u64
     read-u64-requires
     sort-of-requires
-    pointer-bad-requires
+    element-copy-out-marked-bad
+    marked-bad-requires
     returns
     add-a
     loop-less
