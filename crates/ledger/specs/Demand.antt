@@ -1,22 +1,15 @@
 -- DEMAND 3: for every n, k and w in document 01's ranges, and every list of events, all its clauses hold.
-use mathlib.Core.Path.{_≡_}
-use mathlib.Core.Bool.{true}
 use mathlib.Core.List.{List}
 use Prim.Native.Nat.{ℕ, _≤_, _<_}
-use borrow.Author.Tests.{ltb-true, leb-true}
-use Rattle.memory.specs.Fresh.{within}
 use Rattle.events.specs.declared.Event.{Event}
 use Rattle.ledger.specs.Statement.{Holds, Demand3}
+use Rattle.ledger.specs.Ranges.{ranges}
 use Rattle.ledger.specs.Clauses
 use Rattle.ledger.specs.Instant
-use Rattle.ledger.specs.Operations.{both, of-one}
+use Rattle.ledger.specs.Operations.{of-one}
 use Rattle.ledger.specs.Once
 use Rattle.ledger.specs.Answers
 use Rattle.ledger.specs.ReadCourse
-
--- the sizes
-between : (x most : ℕ) → within x most ≡ true → (0 < x) × (x ≤ most)
-between x most e = let z = both _ _ e in (ltb-true 0 x (z .0), leb-true x most (z .1))
 
 module _ (n k w : ℕ) (nn : n ≤ 64) (kk : k ≤ 16) (ww : w ≤ 8) (kp : 0 < k) (es : List Event) where
   holds : Holds n k w es
@@ -36,5 +29,4 @@ module _ (n k w : ℕ) (nn : n ≤ 64) (kk : k ≤ 16) (ww : w ≤ 8) (kp : 0 < 
   }
 
 pub demand-three : Demand3
-demand-three n k w e es = let a = both _ _ e in let b = both _ _ (a .1) in
-    holds n k w (between n 64 (a .0) .1) (between k 16 (b .0) .1) (between w 8 (b .1) .1) (between k 16 (b .0) .0) es
+demand-three n k w e es = let r = ranges n k w e in holds n k w (r .words) (r .descriptors) (r .workers) (r .some) es

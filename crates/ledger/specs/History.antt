@@ -142,7 +142,7 @@ module _ (n k : ℕ) (M : Cells) (In : ℕ → Bool) (Differed : ℕ → Type 0)
   owner-placed d StoreFree h = tt
   owner-placed d (BackFree o) h = tt
 
-  worker-fits : (x : Worker) → WorkerKnows n k M In Differed Sent x → WorkerFits n k M x
+  pub worker-fits : (x : Worker) → WorkerKnows n k M In Differed Sent x → WorkerFits n k M x
   worker-fits Idle h = tt
   worker-fits (Building d) h = h .2
   worker-fits (Working o d p) h = (h .1, go (ownerOf o d) (h .2))

@@ -44,4 +44,14 @@ pub mod Once
 pub mod Last
 pub mod Answers
 pub mod ReadCourse
+pub mod Ranges
 pub mod Demand
+pub mod Small
+pub mod SmallKept
+pub mod Passes
+pub mod ImageValue
+pub mod Runtime
+pub mod RuntimeHolds
+pub mod RecoverySteps
+pub mod StepsLeft
+pub mod RecoveryBound

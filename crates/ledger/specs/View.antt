@@ -117,7 +117,7 @@ module _ (x m : Block) (c : Copy) (d : ℕ) (o : (f : Field) → ((j : ℕ) → 
       (same-recovery m x (λ i. o (recovery i) (λ j z. clash (cc))))
 
 -- a body has 13 numbers
-past-body : (m : Block) (c : Copy) (d j : ℕ) → 13 ≤ j → get m (body c d j) ≡ 0
+pub past-body : (m : Block) (c : Copy) (d j : ℕ) → 13 ≤ j → get m (body c d j) ≡ 0
 unfolding slot
 past-body m c d j h = get-nowhere m (body c d j) (go (ltb d 16))
   where
