@@ -15,12 +15,12 @@ use Rattle.steps.specs.declared.Worker.the-variants.{Idle, Working}
 use Rattle.steps.specs.declared.Seen.{Seen}
 use Rattle.steps.specs.declared.Effect as F
 use Rattle.steps.specs.Plan.{outcomeOf}
-use Rattle.steps.specs.Operation.{planOf, storeFree}
 use Rattle.codes.specs.Place.{placeEntry}
 use Rattle.memory.specs.declared.Copy.{Copy}
 use Rattle.memory.specs.declared.Copy.the-variants.{Cached, Persisted}
 use Rattle.memory.specs.Value.{isSuccess}
 use Rattle.events.specs.Build.{ownerOf}
+use Rattle.ledger.specs.Rules.{storeFree, planOf}
 use Rattle.ledger.specs.Update.{clash, upd-same}
 use Rattle.ledger.specs.Cells.{Body, Cells, State, setStatus, setBody, withCells, withWorker}
 use Rattle.ledger.specs.Seen.{Sees}

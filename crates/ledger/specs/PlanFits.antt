@@ -27,12 +27,11 @@ use Rattle.steps.specs.declared.More.{More}
 use Rattle.steps.specs.declared.More.the-variants.{Then, Done}
 use Rattle.steps.specs.declared.Plan.{Plan}
 use Rattle.steps.specs.declared.RecoveryPlan.{RecoveryPlan}
-use Rattle.steps.specs.Plan.{pointsTo, isDirtyPointer, isDirtyPlain, leftValue, chosen, outcomeOf, storeIf, isFree, readPlan, readClearPlan}
-use Rattle.steps.specs.Operation.{moreOf, installed, installBy, installWord, install, installClear, persisted, persistClear, decide, settle, swap, swapped, swapClear, storeFree, planOf}
-use Rattle.steps.specs.Recovery.{entryStep, endStep, liveStep, recoveryPlan}
+use Rattle.steps.specs.Plan.{pointsTo, isDirtyPointer, isDirtyPlain, leftValue, chosen, outcomeOf, storeIf, isFree}
 use Rattle.codes.specs.Place.{placeEntry}
 use Rattle.memory.specs.declared.Copy.{Copy}
 use Rattle.memory.specs.declared.Copy.the-variants.{Cached}
+use Rattle.ledger.specs.Rules.{moreOf, installed, installWord, installBy, install, installClear, persisted, persistClear, decide, settle, swap, swapped, swapClear, storeFree, planOf, readPlan, readClearPlan, entryStep, endStep, liveStep, recoveryPlan}
 use Rattle.ledger.specs.Cond.{cond-if, and-first, and-second}
 use Rattle.ledger.specs.Cells.{cellOf, Cells}
 use Rattle.ledger.specs.Seen.{Sees}

@@ -19,12 +19,12 @@ use Rattle.steps.specs.declared.More.the-variants.{Then, Done}
 use Rattle.steps.specs.declared.RecoveryPlace.{RecoveryPlace}
 use Rattle.steps.specs.declared.RecoveryPlace.the-variants.{Outside, At}
 use Rattle.steps.specs.declared.RecoveryPlan.{RecoveryPlan}
-use Rattle.steps.specs.Plan.{pointsTo, leftValue, isFree, storeIf}
-use Rattle.steps.specs.Recovery.{recoveryStep, entryStep, endStep, liveStep, recoveryPlan}
+use Rattle.steps.specs.Plan.{pointsTo, isFree, storeIf}
 use Rattle.memory.specs.declared.Copy.{Copy}
 use Rattle.memory.specs.declared.Copy.the-variants.{Cached, Persisted}
 use Rattle.memory.specs.Value.{succeeded}
 use Rattle.machine.specs.Recover.{visitAfter}
+use Rattle.ledger.specs.Rules.{recoveredValue, recoveryStep, entryStep, endStep, liveStep, recoveryPlan}
 use Rattle.ledger.specs.Update.{clash, upd-if, upd-at, upd-same, upd-other}
 use Rattle.ledger.specs.Cond.{cond-if, cond-lt, and-first, and-second}
 use Rattle.ledger.specs.Cells.{Cell, plain, pointer, Belongs, Body, Cells, State, setStatus}
@@ -57,7 +57,7 @@ both-true : (s t : Bool) → s ≡ true → t ≡ true → (s && t) ≡ true
 both-true s t p q = rw (p, q)
 
 -- what recovery stores is what the word stands for
-left-stands : (s : Status) (e : Entry) (b : Body) (a : ℕ) → desiredOf b a ≡ e .desired → expectedOf b a ≡ e .expected → leftValue s e ≡ stands s b a
+left-stands : (s : Status) (e : Entry) (b : Body) (a : ℕ) → desiredOf b a ≡ e .desired → expectedOf b a ≡ e .expected → recoveredValue s e ≡ stands s b a
 left-stands Free e b a p q = sym q
 left-stands Undecided e b a p q = sym q
 left-stands (Decided Succeeded x) e b a p q = sym p
@@ -141,7 +141,7 @@ module _ (n k : ℕ) {s : State} {L : ℕ → ℕ} {In : ℕ → Bool} {Differed
         proper = I .bodies Persisted d live .0
 
         abbrev w : ℕ
-        w = leftValue (x .status) (x .entry)
+        w = recoveredValue (x .status) (x .entry)
 
         value : w ≡ stands (M .status Persisted d) b a
         value = left-stands (x .status) (x .entry) b a (rw entry (proper .desired (t / 2) i)) (rw entry (proper .expected (t / 2) i)) ∙ ap (λ (z : Status). stands z b a) (v .status)

@@ -22,10 +22,10 @@ use Rattle.steps.specs.declared.More.{More}
 use Rattle.steps.specs.declared.More.the-variants.{Then, Done}
 use Rattle.steps.specs.declared.Plan.{Plan}
 use Rattle.steps.specs.Plan.{planned, pointsTo, isDirtyPointer, isDirtyPlain, leftValue, storeIf}
-use Rattle.steps.specs.Operation.{moreOf, installed, installBy, installWord, install, installClear, persisted, persistClear, decide, settle, settleClear, swap, swapped, swapDone, swapClear, planOf}
 use Rattle.codes.specs.Place.{placeEntry}
 use Rattle.memory.specs.declared.Copy.{Copy}
 use Rattle.memory.specs.declared.Copy.the-variants.{Cached, Persisted}
+use Rattle.ledger.specs.Rules.{moreOf, installed, installWord, installBy, install, installClear, persisted, persistClear, decide, settle, settleClear, swap, swapped, swapDone, swapClear, planOf}
 use Rattle.ledger.specs.Update.{clash, upd, upd-same}
 use Rattle.ledger.specs.Cond.{cond-eq, cond-lt}
 use Rattle.ledger.specs.Cells.{plain, pointer, neither, cellOf, Belongs, Body, Cells, setWord, applied}
