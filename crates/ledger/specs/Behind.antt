@@ -10,7 +10,7 @@ use Rattle.steps.specs.declared.Worker.{Worker}
 use Rattle.steps.specs.declared.Worker.the-variants.{Working}
 use Rattle.steps.specs.declared.RecoveryPlace.{RecoveryPlace}
 use Rattle.steps.specs.declared.RecoveryPlace.the-variants.{Outside, At}
-use Rattle.steps.specs.Recovery.{recoveryPlan}
+use Rattle.ledger.specs.Rules.{recoveryPlan}
 use Rattle.memory.specs.Block.{Block}
 use Rattle.memory.specs.Content.{workerIn}
 use Rattle.events.specs.declared.Event.{Event}

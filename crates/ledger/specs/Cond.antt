@@ -4,7 +4,16 @@ use mathlib.Core.Logic.{_≢_}
 use mathlib.Core.Bool.{Bool, true, false, cond, _&&_}
 use Prim.Native.Nat.{ℕ, _≤_, _<_}
 use lib.Dec.{eqb, ltb}
-use borrow.Author.Tests.{eqb-true, eqb-false, ltb-true, ltb-false}
+use borrow.Author.Tests.{eqb-true, eqb-false, ltb-true, ltb-false, lt-ltb}
+use Rattle.ledger.specs.Update.{clash}
+
+pub and-first : (s t : Bool) → (s && t) ≡ true → s ≡ true
+and-first true t e = refl
+and-first false t e = e
+
+pub and-second : (s t : Bool) → (s && t) ≡ true → t ≡ true
+and-second true t e = e
+and-second false t e = let z : _≡_ {A = Bool} false true = e in cc
 
 module _ {A : Type 0} (P : A → Type 0) where
   pub cond-if : (t : Bool) (x y : A) → (t ≡ true → P x) → (t ≡ false → P y) → P (cond t x y)
@@ -17,10 +26,7 @@ module _ {A : Type 0} (P : A → Type 0) where
   pub cond-lt : (m n : ℕ) (x y : A) → (m < n → P x) → (n ≤ m → P y) → P (cond (ltb m n) x y)
   cond-lt m n x y f h = cond-if (ltb m n) x y (λ e. f (ltb-true m n e)) (λ e. h (ltb-false m n e))
 
-pub and-first : (s t : Bool) → (s && t) ≡ true → s ≡ true
-and-first true t e = refl
-and-first false t e = e
-
-pub and-second : (s t : Bool) → (s && t) ≡ true → t ≡ true
-and-second true t e = e
-and-second false t e = let z : _≡_ {A = Bool} false true = e in cc
+  pub cond-both : (i j m n : ℕ) (x y : A) → (i < j → m < n → P x) → ((i < j → m < n → ⊥) → P y) → P (cond (ltb i j && ltb m n) x y)
+  cond-both i j m n x y f h = cond-if (ltb i j && ltb m n) x y
+      (λ e. f (ltb-true i j (and-first (ltb i j) (ltb m n) e)) (ltb-true m n (and-second (ltb i j) (ltb m n) e)))
+      (λ e. h (λ p q. let z : ltb i j ≡ true = lt-ltb i j p in let w : ltb m n ≡ true = lt-ltb m n q in let u : _≡_ {A = Bool} true false = (rw (z, w) at e) in clash (cc)))

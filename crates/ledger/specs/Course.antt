@@ -16,14 +16,13 @@ use Rattle.steps.specs.declared.Next.{Next}
 use Rattle.steps.specs.declared.Next.the-variants.{Go, Help, Over, Wait, Answer}
 use Rattle.steps.specs.declared.ReadNext.{ReadNext}
 use Rattle.steps.specs.declared.ReadNext.the-variants.{Meet, Clear, Value}
-use Rattle.steps.specs.Plan.{readPlan, readClearPlan}
-use Rattle.steps.specs.Operation.{planOf}
 use Rattle.events.specs.declared.Event.{Event}
 use Rattle.events.specs.declared.Event.the-variants.{Submit, Step, Crash}
 use Rattle.events.specs.declared.Answer as A
 use Rattle.events.specs.declared.Answer.the-variants.{Ok, Opened, Moved, Helping, Waits, Answered, Shows, Recovering, Recovered, Refused}
 use Rattle.events.specs.Build.{ownerOf}
 use Rattle.machine.specs.Step.{workerAfter, answerOf, readAfter, readAnswer}
+use Rattle.ledger.specs.Rules.{planOf, readPlan, readClearPlan}
 use Rattle.ledger.specs.Update.{clash, upd, upd-if, upd-same}
 use Rattle.ledger.specs.Cells.{State}
 use Rattle.ledger.specs.Machine.{Turn, refused, opens, adds, removes, submits, discards, begins, works, reads, clears, backs-word, backs-status, backs-body, crashes, recovers}

@@ -19,9 +19,6 @@ use Rattle.steps.specs.declared.Effect.{Effect}
 use Rattle.steps.specs.declared.Seen.{Seen}
 use Rattle.steps.specs.declared.Plan.{Plan}
 use Rattle.steps.specs.declared.ReadPlan.{ReadPlan}
-use Rattle.steps.specs.Plan.{readPlan, readClearPlan}
-use Rattle.steps.specs.Operation.{planOf}
-use Rattle.steps.specs.Recovery.{recoveryPlan}
 use Rattle.codes.specs.Place.{placeEntry}
 use Rattle.memory.specs.declared.Copy.the-variants.{Cached, Persisted}
 use Rattle.memory.specs.Block.{Block}
@@ -35,6 +32,7 @@ use Rattle.events.specs.Build.{ownerOf}
 use Rattle.machine.specs.Step.{seenIn, performed, onJob, otherOn, othersOn, busyAt, workerAfter, answerOf, planAt, workStep, readAfter, readAnswer, readStep, readClearStep, stepOf}
 use Rattle.machine.specs.Whole.{performed-whole}
 use Rattle.machine.specs.Recover.{crashed, placeAfter, recoveryAnswer, recoveryPlanAt, recoveryStepAt, recoverOf}
+use Rattle.ledger.specs.Rules.{planOf, readPlan, readClearPlan, recoveryPlan}
 use Rattle.ledger.specs.Update.{clash}
 use Rattle.ledger.specs.Cells.{cellOf, Cells, State, applied, withCells, withWorker, withRecovery}
 use Rattle.ledger.specs.View.{cellsOf, view, view-put-worker, view-put-recovery}

@@ -28,12 +28,12 @@ use Rattle.events.specs.declared.Event.{Event}
 use Rattle.events.specs.declared.Event.the-variants.{Open, Add, Remove, Submit, Discard, Read, Step, BackWord, BackStatus, Crash, Recover}
 use Rattle.events.specs.declared.Event as H
 use Rattle.events.specs.Build.{ownerOf, lowestBelow}
-use Rattle.steps.specs.Plan.{readPlan, readClearPlan}
 use Rattle.machine.specs.Step.{planAt}
 use Rattle.machine.specs.Recover.{recoveryPlanAt}
 use Rattle.machine.specs.Kept.{SparedBy, SparedByStep, SparedByOpen, SparedByRecovery, Spared, spared-kept}
 use Rattle.machine.specs.Whole.{apply-whole}
 use Rattle.machine.specs.Apply.{applyOf, afterOf}
+use Rattle.ledger.specs.Rules.{readPlan, readClearPlan}
 use Rattle.ledger.specs.Statement.{memoryAt}
 use Rattle.ledger.specs.Update.{clash}
 use Rattle.ledger.specs.Cells.{Body, Cells}

@@ -25,8 +25,6 @@ use Rattle.steps.specs.declared.ReadNext.the-variants.{Meet, Clear, Value}
 use Rattle.steps.specs.declared.More.{More}
 use Rattle.steps.specs.declared.More.the-variants.{Then, Done}
 use Rattle.steps.specs.declared.Plan.{Plan}
-use Rattle.steps.specs.Plan.{readPlan, readClearPlan}
-use Rattle.steps.specs.Operation.{moreOf, installed, installWord, installBy, install, installClear, persisted, persistClear, decide, settle, swap, swapped, swapClear, storeFree, planOf}
 use Rattle.memory.specs.declared.Copy.the-variants.{Cached}
 use Rattle.memory.specs.Value.{isSuccess}
 use Rattle.events.specs.declared.Event.{Event}
@@ -35,6 +33,7 @@ use Rattle.events.specs.declared.Answer as A
 use Rattle.events.specs.declared.Answer.the-variants.{Answered}
 use Rattle.events.specs.Build.{ownerOf}
 use Rattle.machine.specs.Step.{answerOf, readAnswer}
+use Rattle.ledger.specs.Rules.{moreOf, installed, installWord, installBy, install, installClear, persisted, persistClear, decide, settle, swap, swapped, swapClear, storeFree, planOf, readPlan, readClearPlan}
 use Rattle.ledger.specs.Update.{clash}
 use Rattle.ledger.specs.Cells.{Body, Cells, State}
 use Rattle.ledger.specs.Cond.{cond-if}

@@ -6,6 +6,8 @@ pub mod ViewCrash
 pub mod Seen
 pub mod Fits
 pub mod Cond
+pub mod Wrong
+pub mod Rules
 pub mod PlanFits
 pub mod Machine
 pub mod Follow

@@ -20,9 +20,6 @@ use Rattle.steps.specs.declared.Effect as F
 use Rattle.steps.specs.declared.Plan.{Plan}
 use Rattle.steps.specs.declared.ReadPlan.{ReadPlan}
 use Rattle.steps.specs.declared.RecoveryPlan.{RecoveryPlan}
-use Rattle.steps.specs.Plan.{readPlan, readClearPlan}
-use Rattle.steps.specs.Operation.{planOf}
-use Rattle.steps.specs.Recovery.{recoveryPlan}
 use Rattle.codes.specs.Place.{placeEntry}
 use Rattle.memory.specs.declared.Copy.the-variants.{Cached, Persisted}
 use Rattle.events.specs.declared.Event.{Event}
@@ -32,6 +29,7 @@ use Rattle.events.specs.declared.Answer.the-variants.{Ok, Opened, Refused}
 use Rattle.events.specs.Build.{ownerOf, owns}
 use Rattle.machine.specs.Step.{onJob, isStoreFree, workerAfter, answerOf, readAfter, readAnswer}
 use Rattle.machine.specs.Recover.{placeAfter, recoveryAnswer}
+use Rattle.ledger.specs.Rules.{planOf, readPlan, readClearPlan, recoveryPlan}
 use Rattle.ledger.specs.Cells.{cellOf, Body, State, setBody, applied, crashedCells, withCells, withWorker, withRecovery, allIdle}
 use Rattle.ledger.specs.Seen.{entryAt, Sees}
 use Rattle.ledger.specs.Fits.{EntryFits}

@@ -15,14 +15,15 @@ use Rattle.steps.specs.declared.Worker.the-variants.{Idle, Working}
 use Rattle.steps.specs.declared.Seen.{Seen}
 use Rattle.steps.specs.declared.Effect as F
 use Rattle.steps.specs.Plan.{outcomeOf}
-use Rattle.steps.specs.Operation.{planOf, storeFree}
 use Rattle.codes.specs.Place.{placeEntry}
 use Rattle.memory.specs.declared.Copy.{Copy}
 use Rattle.memory.specs.declared.Copy.the-variants.{Cached, Persisted}
 use Rattle.memory.specs.Value.{isSuccess}
 use Rattle.events.specs.Build.{ownerOf}
+use Rattle.machine.specs.Step.{onJob}
+use Rattle.ledger.specs.Rules.{storeFree, planOf}
 use Rattle.ledger.specs.Update.{clash, upd-same}
-use Rattle.ledger.specs.Cells.{Body, Cells, State, setStatus, setBody, withCells, withWorker}
+use Rattle.ledger.specs.Cells.{Body, Cells, State, setStatus, applied, withCells, withWorker}
 use Rattle.ledger.specs.Seen.{Sees}
 use Rattle.ledger.specs.Fits.{CellsFit, fit-applied}
 use Rattle.ledger.specs.Meaning.{Has, expectedOf}
@@ -66,30 +67,43 @@ module _ (n k : ℕ) {s : State} {L : ℕ → ℕ} {In : ℕ → Bool} {Differed
     own-turn p q acts r bg fit alone starts h = turn n k I Differed′ Sent′ gd gs r bg fit w (Working o d q) (Working o d p) acts
         (λ f z. inl z) (λ f z. inl z) (λ f z. subst (λ (x : ℕ). ownerOf o x ≡ true) (sym (starts f z)) e) alone (of, dk, rw e h)
 
-    -- 1.
-    back-body-ok : Acts n k s w (Working o d BackBody) → Ready n k M In Differed Sent d → End (withWorker (withCells s (setBody M Persisted d (M .body Cached d))) w (Working o d StoreUndecided))
-    back-body-ok acts h = own-turn BackBody StoreUndecided acts (Rule.back-body d) tt (fit-applied n k M (I .fits) d F.the-variants.BackBody tt) (λ v f _ _ z. z) (λ f z. absurd z) (
-      record { cached = h .cached; persisted = h .persisted; proper = h .proper; body = h .body ∙ sym (gs d); out = same-flag d ∙ h .out },
-      sym (upd-same (M .body Persisted) d (M .body Cached d)),
-    )
+    -- the cells after the owner's step at p; and that it keeps the invariant
+    abbrev after : Place → Seen → Bool → Cells
+    after p x busy = applied M d (planOf p d x busy true .effect)
 
-    store-undecided-ok : Acts n k s w (Working o d StoreUndecided) → Ready n k M In Differed Sent d → M .body Cached d ≡ M .body Persisted d
-        → End (withWorker (withCells s (setStatus M Cached d Undecided)) w (Working o d BackUndecided))
-    store-undecided-ok acts h b = own-turn StoreUndecided BackUndecided acts (Rule.store-undecided d (h .cached) (h .persisted) b (h .out)) (h .proper, h .body, dk)
+    abbrev StepOk : Place → Seen → Bool → Type 0
+    StepOk p x busy = End (workerDone s w o d p (planOf p d x busy true))
+
+    -- 1.
+    back-body-ok : (x : Seen) (busy : Bool) → Acts n k s w (Working o d BackBody) → Ready n k M In Differed Sent d → StepOk BackBody x busy
+    back-body-ok x busy acts h = own-turn BackBody StoreUndecided acts {new = after BackBody x busy} (Rule.back-body d) tt (fit-applied n k M (I .fits) d F.the-variants.BackBody tt) (λ v f _ _ z. z) (λ f z. absurd z) (ready, alike)
+      where
+        alike : after BackBody x busy .body Cached d ≡ after BackBody x busy .body Persisted d
+        alike = sym (upd-same (M .body Persisted) d (M .body Cached d))
+
+        ready : Ready n k (after BackBody x busy) (In⁺ n k I Differed′ Sent′ gd gs (after BackBody x busy)) Differed′ Sent′ d
+        ready = record { cached = h .cached; persisted = h .persisted; proper = h .proper; body = h .body ∙ sym (gs d); out = same-flag d ∙ h .out }
+
+    store-undecided-ok : (x : Seen) (busy : Bool) → Acts n k s w (Working o d StoreUndecided) → Ready n k M In Differed Sent d → M .body Cached d ≡ M .body Persisted d → StepOk StoreUndecided x busy
+    store-undecided-ok x busy acts h b = own-turn StoreUndecided BackUndecided acts {new = after StoreUndecided x busy} (Rule.store-undecided d (h .cached) (h .persisted) b (h .out)) (h .proper, h .body, dk)
         (fit-applied n k M (I .fits) d (F.the-variants.StoreStatus Undecided) tt)
         (λ v f q c z. alone-free n k I Differed′ Sent′ gd gs seen w (Working o d StoreUndecided) d (acts .is) e (h .cached) v q (rw (← z) c))
         (λ f z. z)
         (λ z. let y : Undecided ≡ Free = sym (upd-same (M .status Cached) d Undecided) ∙ z in clash (cc), h .body ∙ sym (gs d))
 
-    back-undecided-ok : Acts n k s w (Working o d BackUndecided) → M .status Cached d ≢ Free → End (withWorker (withCells s (setStatus M Persisted d (M .status Cached d))) w (Working o d (Install 0)))
-    back-undecided-ok acts l = own-turn BackUndecided (Install 0) acts (Rule.back-status d) tt (fit-applied n k M (I .fits) d F.the-variants.BackStatus tt) (λ v f _ _ z. z) (λ f z. absurd z)
+    back-undecided-ok : (x : Seen) (busy : Bool) → Acts n k s w (Working o d BackUndecided) → M .status Cached d ≢ Free → StepOk BackUndecided x busy
+    back-undecided-ok x busy acts l = own-turn BackUndecided (Install 0) acts {new = after BackUndecided x busy} (Rule.back-status d) tt (fit-applied n k M (I .fits) d F.the-variants.BackStatus tt) (λ v f _ _ z. z) (λ f z. absurd z)
         (from-start n k I Differed′ Sent′ gd gs (Rule.back-status d) tt (fit-applied n k M (I .fits) d F.the-variants.BackStatus tt) d live)
       where
         live : (c : Copy) → setStatus M Persisted d (M .status Cached d) .status c d ≢ Free
         live Cached = l
         live Persisted = λ z. l (sym (upd-same (M .status Persisted) d (M .status Cached d)) ∙ z)
 
-    -- 7.
+    -- 7. Free is stored only where no other worker is on d
+    frees-alone : (x : Status) (busy : Bool) → Alone s w d StoreFree busy → storeFree busy x .effect ≡ F.the-variants.StoreStatus Free → (u : ℕ) → u ≢ w → onJob (s .worker u) d ≡ false
+    frees-alone x true alone e = clash (cc)
+    frees-alone x false alone e = alone refl refl
+
     store-free-ok : Acts n k s w (Working o d StoreFree) → OnJob n k M In Differed Sent d StoreFree → (x : Status) → x ≡ M .status Cached d → (busy : Bool) → Alone s w d StoreFree busy
         → End (workerDone s w o d StoreFree (storeFree busy x))
     store-free-ok acts h x v true alone = turn n k I Differed′ Sent′ gd gs Rule.same tt (I .fits) w (Working o d StoreFree) (Working o d StoreFree) acts
@@ -116,10 +130,10 @@ module _ (n k : ℕ) {s : State} {L : ℕ → ℕ} {In : ℕ → Bool} {Differed
 
         nobody : (u : ℕ) → u ≢ w → Concerns (s .worker u) d → ⊥
         nobody u q (inl z) = q (I .one u w d z (rw (acts .is) e))
-        nobody u q (inr z) = let y = alone refl refl u q in clash (cc)
+        nobody u q (inr z) = let y = frees-alone x false alone refl u q in clash (cc)
 
-    back-free-ok : (r : Outcome) → Acts n k s w (Working o d (BackFree r)) → M .status Cached d ≡ Free → End (withWorker (withCells s (setStatus M Persisted d (M .status Cached d))) w Idle)
-    back-free-ok r acts h = turn n k I Differed′ Sent′ gd gs (Rule.back-status d) tt (fit-applied n k M (I .fits) d F.the-variants.BackStatus tt) w Idle (Working o d (BackFree r)) acts
+    back-free-ok : (r : Outcome) (x : Seen) (busy : Bool) → Acts n k s w (Working o d (BackFree r)) → M .status Cached d ≡ Free → StepOk (BackFree r) x busy
+    back-free-ok r x busy acts h = turn n k I Differed′ Sent′ gd gs (Rule.back-status d) tt (fit-applied n k M (I .fits) d F.the-variants.BackStatus tt) w Idle (Working o d (BackFree r)) acts
         (λ f z. clash (cc)) (λ f z. inr (free f (same-own o d f e z))) (λ f z. absurd z) (λ v f _ _ z. z) tt
       where
         free : (f : ℕ) → f ≡ d → (c : Copy) → setStatus M Persisted d (M .status Cached d) .status c f ≡ Free
@@ -127,8 +141,7 @@ module _ (n k : ℕ) {s : State} {L : ℕ → ℕ} {In : ℕ → Bool} {Differed
         free f q Persisted = rw q (upd-same (M .status Persisted) d (M .status Cached d) ∙ h)
 
     -- at a place that helpers come to as well
-    by : (p : Place) → Acts n k s w (Working o d p) → (x : Seen) → Sees M Cached d (placeEntry p) x → (busy : Bool) → OnJob n k M In Differed Sent d p → Shared p
-        → End (workerDone s w o d p (planOf p d x busy true))
+    by : (p : Place) → Acts n k s w (Working o d p) → (x : Seen) → Sees M Cached d (placeEntry p) x → (busy : Bool) → OnJob n k M In Differed Sent d p → Shared p → StepOk p x busy
     by p acts x v busy h sp = shared n k I Differed′ Sent′ gd gs seen w o d p acts of dk x v busy true e h (home o e) sp
       where
         home : (o : Own) → ownerOf o d ≡ true → Home n k M In Differed Sent o
@@ -136,11 +149,10 @@ module _ (n k : ℕ) {s : State} {L : ℕ → ℕ} {In : ℕ → Bool} {Differed
         home (Read a) q = clash (cc)
 
     -- the owner, at any place
-    own-ok : (p : Place) → Acts n k s w (Working o d p) → (x : Seen) → Sees M Cached d (placeEntry p) x → (busy : Bool) → Alone s w d p busy → OwnerKnows n k M In Differed Sent d p
-        → End (workerDone s w o d p (planOf p d x busy true))
-    own-ok BackBody acts x v busy alone h = back-body-ok acts h
-    own-ok StoreUndecided acts x v busy alone h = store-undecided-ok acts (h .0) (h .1)
-    own-ok BackUndecided acts x v busy alone h = back-undecided-ok acts (h .0)
+    own-ok : (p : Place) → Acts n k s w (Working o d p) → (x : Seen) → Sees M Cached d (placeEntry p) x → (busy : Bool) → Alone s w d p busy → OwnerKnows n k M In Differed Sent d p → StepOk p x busy
+    own-ok BackBody acts x v busy alone h = back-body-ok x busy acts h
+    own-ok StoreUndecided acts x v busy alone h = store-undecided-ok x busy acts (h .0) (h .1)
+    own-ok BackUndecided acts x v busy alone h = back-undecided-ok x busy acts (h .0)
     own-ok (Install i) acts x v busy alone h = by (Install i) acts x v busy h (at-install i)
     own-ok (InstallClear i u) acts x v busy alone h = by (InstallClear i u) acts x v busy h (at-install-clear i u)
     own-ok (Persist i) acts x v busy alone h = by (Persist i) acts x v busy h (at-persist i)
@@ -152,7 +164,7 @@ module _ (n k : ℕ) {s : State} {L : ℕ → ℕ} {In : ℕ → Bool} {Differed
     own-ok (SwapBack i) acts x v busy alone h = by (SwapBack i) acts x v busy h (at-swap-back i)
     own-ok (SwapClear i) acts x v busy alone h = by (SwapClear i) acts x v busy h (at-swap-clear i)
     own-ok StoreFree acts x v busy alone h = store-free-ok acts h (x .status) (v .status) busy alone
-    own-ok (BackFree r) acts x v busy alone h = back-free-ok r acts (h .0)
+    own-ok (BackFree r) acts x v busy alone h = back-free-ok r x busy acts (h .0)
 
   -- record 07, of a worker on an operation
   pub work-ok : (w : ℕ) (o : Own) (d : ℕ) (p : Place) (x : Seen) (busy : Bool) → Acts n k s w (Working o d p) → Sees M Cached d (placeEntry p) x → Alone s w d p busy

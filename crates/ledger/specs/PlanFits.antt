@@ -5,7 +5,7 @@ use Prim.Native.Nat.{ℕ, suc, _<_, _^_, _/_, _%_}
 use native.Mathlib.Omega.{arith}
 use lib.Dec.{eqb, ltb}
 use lib.ListN.{length}
-use borrow.Author.Tests.{eqb-true, ltb-true}
+use borrow.Author.Tests.{eqb-true}
 use Rattle.word.specs.declared.Sort.{Sort}
 use Rattle.word.specs.declared.Sort.the-variants.{Plain, Pointer, Neither}
 use Rattle.word.specs.declared.Outcome.{Outcome}
@@ -27,13 +27,12 @@ use Rattle.steps.specs.declared.More.{More}
 use Rattle.steps.specs.declared.More.the-variants.{Then, Done}
 use Rattle.steps.specs.declared.Plan.{Plan}
 use Rattle.steps.specs.declared.RecoveryPlan.{RecoveryPlan}
-use Rattle.steps.specs.Plan.{pointsTo, isDirtyPointer, isDirtyPlain, leftValue, chosen, outcomeOf, storeIf, isFree, readPlan, readClearPlan}
-use Rattle.steps.specs.Operation.{moreOf, installed, installBy, installWord, install, installClear, persisted, persistClear, decide, settle, swap, swapped, swapClear, storeFree, planOf}
-use Rattle.steps.specs.Recovery.{entryStep, endStep, liveStep, recoveryPlan}
+use Rattle.steps.specs.Plan.{pointsTo, isDirtyPointer, isDirtyPlain, leftValue, chosen, outcomeOf, storeIf, isFree}
 use Rattle.codes.specs.Place.{placeEntry}
 use Rattle.memory.specs.declared.Copy.{Copy}
 use Rattle.memory.specs.declared.Copy.the-variants.{Cached}
-use Rattle.ledger.specs.Cond.{cond-if, and-first, and-second}
+use Rattle.ledger.specs.Rules.{moreOf, installed, installWord, installBy, install, installClear, persisted, persistClear, decide, settle, swap, swapped, swapClear, storeFree, planOf, readPlan, readClearPlan, entryStep, endStep, liveStep, recoveryPlan}
+use Rattle.ledger.specs.Cond.{cond-if, cond-both, and-first, and-second}
 use Rattle.ledger.specs.Cells.{cellOf, Cells}
 use Rattle.ledger.specs.Seen.{Sees}
 use Rattle.ledger.specs.Fits.{CellFits, EntryFits, CellsFit, EffectFits}
@@ -225,6 +224,4 @@ module _ (n k : ℕ) where
     pub recovery-fits : (done : ℕ) → i ≡ done / 2 → EffectFits n k (recoveryPlan d done x .effect)
     unfolding recoveryPlan liveStep
     recovery-fits done q = cond-if (λ (r : RecoveryPlan). EffectFits n k (r .effect)) (eqb done 0 && isFree (x .status)) _ _ (λ _. tt)
-        (λ _. cond-if (λ (r : RecoveryPlan). EffectFits n k (r .effect)) (ltb done 8 && ltb (done / 2) (x .count)) _ _
-        (λ e. entry-step-fits done (rw (← v .count, q) (ltb-true (done / 2) (x .count) (and-second (ltb done 8) (ltb (done / 2) (x .count)) e))))
-        (λ _. end-step-fits done))
+        (λ _. cond-both (λ (r : RecoveryPlan). EffectFits n k (r .effect)) done 8 (done / 2) _ _ _ (λ _ l. entry-step-fits done (let c = v .count in omega arith)) (λ _. end-step-fits done))

@@ -16,8 +16,7 @@ use Rattle.steps.specs.declared.Next.{Next}
 use Rattle.steps.specs.declared.Next.the-variants.{Go, Help, Over, Wait, Answer}
 use Rattle.steps.specs.declared.ReadNext.{ReadNext}
 use Rattle.steps.specs.declared.ReadNext.the-variants.{Meet, Clear, Value}
-use Rattle.steps.specs.Plan.{readPlan, readClearPlan}
-use Rattle.steps.specs.Operation.{planOf}
+use Rattle.ledger.specs.Rules.{planOf, readPlan, readClearPlan}
 use Rattle.memory.specs.Block.{Block}
 use Rattle.memory.specs.Content.{workerIn}
 use Rattle.events.specs.declared.Event.{Event}

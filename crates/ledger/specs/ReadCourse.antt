@@ -18,8 +18,6 @@ use Rattle.steps.specs.declared.Worker.{Worker}
 use Rattle.steps.specs.declared.Worker.the-variants.{Idle, Building, Working, Reading, ReadClear}
 use Rattle.steps.specs.declared.Next.{Next}
 use Rattle.steps.specs.declared.Next.the-variants.{Go, Help, Over, Wait, Answer}
-use Rattle.steps.specs.Plan.{readPlan}
-use Rattle.steps.specs.Operation.{planOf}
 use Rattle.memory.specs.declared.Copy.the-variants.{Cached}
 use Rattle.memory.specs.Block.{Block}
 use Rattle.memory.specs.Content.{workerIn}
@@ -29,6 +27,7 @@ use Rattle.events.specs.declared.Answer as A
 use Rattle.events.specs.declared.Answer.the-variants.{Ok, Answered, Shows}
 use Rattle.events.specs.Build.{ownerOf}
 use Rattle.machine.specs.Step.{workerAfter, answerOf, readAfter, readAnswer}
+use Rattle.ledger.specs.Rules.{planOf, readPlan}
 use Rattle.ledger.specs.Statement.{memoryAt, Happens, Runs, ledger}
 use Rattle.ledger.specs.Update.{clash, upd, upd-if, upd-same}
 use Rattle.ledger.specs.Cells.{cellOf, Cell, State}

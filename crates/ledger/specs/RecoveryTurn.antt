@@ -5,9 +5,9 @@ use mathlib.Core.Bool.{Bool, true, false, _&&_}
 use Prim.Native.Nat.{ℕ, suc, _*_, _/_, _%_, _≤_, _<_}
 use native.Mathlib.Omega.{arith}
 use native.Mathlib.Decide.{ℕ-discrete, decLt}
-use lib.Dec.{eqb, ltb}
+use lib.Dec.{eqb}
 use lib.ListN.{length}
-use borrow.Author.Tests.{eqb-true, eqb-false, eq-eqb, ltb-true, lt-ltb}
+use borrow.Author.Tests.{eqb-true, eqb-false, eq-eqb}
 use Rattle.word.specs.declared.Sort.the-variants.{Plain}
 use Rattle.word.specs.declared.Outcome.the-variants.{Succeeded, Failed}
 use Rattle.word.specs.declared.Status.{Status}
@@ -19,14 +19,14 @@ use Rattle.steps.specs.declared.More.the-variants.{Then, Done}
 use Rattle.steps.specs.declared.RecoveryPlace.{RecoveryPlace}
 use Rattle.steps.specs.declared.RecoveryPlace.the-variants.{Outside, At}
 use Rattle.steps.specs.declared.RecoveryPlan.{RecoveryPlan}
-use Rattle.steps.specs.Plan.{pointsTo, leftValue, isFree, storeIf}
-use Rattle.steps.specs.Recovery.{recoveryStep, entryStep, endStep, liveStep, recoveryPlan}
+use Rattle.steps.specs.Plan.{pointsTo, isFree, storeIf}
 use Rattle.memory.specs.declared.Copy.{Copy}
 use Rattle.memory.specs.declared.Copy.the-variants.{Cached, Persisted}
 use Rattle.memory.specs.Value.{succeeded}
 use Rattle.machine.specs.Recover.{visitAfter}
+use Rattle.ledger.specs.Rules.{recoveredValue, recoveryStep, entryStep, endStep, liveStep, recoveryPlan}
 use Rattle.ledger.specs.Update.{clash, upd-if, upd-at, upd-same, upd-other}
-use Rattle.ledger.specs.Cond.{cond-if, cond-lt, and-first, and-second}
+use Rattle.ledger.specs.Cond.{cond-if, cond-lt, cond-both, and-first, and-second}
 use Rattle.ledger.specs.Cells.{Cell, plain, pointer, Belongs, Body, Cells, State, setStatus}
 use Rattle.ledger.specs.Seen.{entryAt, addressAt, Sees}
 use Rattle.ledger.specs.Fits.{CellsFit, EffectFits, fit-applied}
@@ -57,10 +57,11 @@ both-true : (s t : Bool) → s ≡ true → t ≡ true → (s && t) ≡ true
 both-true s t p q = rw (p, q)
 
 -- what recovery stores is what the word stands for
-left-stands : (s : Status) (e : Entry) (b : Body) (a : ℕ) → desiredOf b a ≡ e .desired → expectedOf b a ≡ e .expected → leftValue s e ≡ stands s b a
+left-stands : (s : Status) (e : Entry) (b : Body) (a : ℕ) → desiredOf b a ≡ e .desired → expectedOf b a ≡ e .expected → recoveredValue s e ≡ stands s b a
 left-stands Free e b a p q = sym q
 left-stands Undecided e b a p q = sym q
-left-stands (Decided Succeeded x) e b a p q = sym p
+left-stands (Decided Succeeded true) e b a p q = sym p
+left-stands (Decided Succeeded false) e b a p q = sym p
 left-stands (Decided Failed x) e b a p q = sym q
 left-stands (Bad x) e b a p q = sym q
 
@@ -141,7 +142,7 @@ module _ (n k : ℕ) {s : State} {L : ℕ → ℕ} {In : ℕ → Bool} {Differed
         proper = I .bodies Persisted d live .0
 
         abbrev w : ℕ
-        w = leftValue (x .status) (x .entry)
+        w = recoveredValue (x .status) (x .entry)
 
         value : w ≡ stands (M .status Persisted d) b a
         value = left-stands (x .status) (x .entry) b a (rw entry (proper .desired (t / 2) i)) (rw entry (proper .expected (t / 2) i)) ∙ ap (λ (z : Status). stands z b a) (v .status)
@@ -207,17 +208,18 @@ module _ (n k : ℕ) {s : State} {L : ℕ → ℕ} {In : ℕ → Bool} {Differed
       not-passed e y z = let p : eqb t 0 ≡ true = eq-eqb t 0 (y .begun z) in let q : isFree (x .status) ≡ true = free-test (x .status) (v .status ∙ z) in
           let u : (eqb t 0 && isFree (x .status)) ≡ true = both-true (eqb t 0) (isFree (x .status)) p q in clash (cc)
 
-      entry-case : (eqb t 0 && isFree (x .status)) ≡ false → (ltb t 8 && ltb (t / 2) (x .count)) ≡ true → EffectFits n k (entryStep d t x .effect) → Ok (entryStep d t x)
+      -- an entry is left, or none
+      entry-case : (eqb t 0 && isFree (x .status)) ≡ false → t / 2 < x .count → EffectFits n k (entryStep d t x .effect) → Ok (entryStep d t x)
       entry-case e f = go (h .here)
         where
           i : t / 2 < length b
-          i = subst (λ (c : ℕ). t / 2 < c) (v .count) (ltb-true (t / 2) (x .count) (and-second (ltb t 8) (ltb (t / 2) (x .count)) f))
+          i = subst (λ (c : ℕ). t / 2 < c) (v .count) f
 
           go : AtEntries M d t ⊎ AtEnd M d t → EffectFits n k (entryStep d t x .effect) → Ok (entryStep d t x)
           go (inl y) = entry-ok i y (not-passed e y)
           go (inr y) = λ _. let z = y .steps in absurd (omega (arith, i))
 
-      end-case : (ltb t 8 && ltb (t / 2) (x .count)) ≡ false → Ok (endStep t)
+      end-case : (t < 8 → t / 2 < x .count → ⊥) → Ok (endStep t)
       unfolding endStep
       end-case f = go (h .here)
         where
@@ -228,17 +230,20 @@ module _ (n k : ℕ) {s : State} {L : ℕ → ℕ} {In : ℕ → Bool} {Differed
           past = elim (decLt (t / 2) (length b)) [ yes q ↦ inr q | no q ↦ inl (omega arith) ]
 
           over : t ≤ 2 * length b → t ≡ 2 * length b
-          over l = ⊎-elim (λ q. omega arith) (λ q.
-              let p : ltb t 8 ≡ true = lt-ltb t 8 (omega (arith, small)) in let r : ltb (t / 2) (x .count) ≡ true = lt-ltb (t / 2) (x .count) (omega (arith, v .count)) in
-              let u : (ltb t 8 && ltb (t / 2) (x .count)) ≡ true = both-true (ltb t 8) (ltb (t / 2) (x .count)) p r in clash (cc)) past
+          over l = ⊎-elim (λ q. omega arith) (λ q. absurd (f (omega (arith, small)) (omega (arith, v .count)))) past
 
           go : AtEntries M d t ⊎ AtEnd M d t → Ok (endStep t)
           go (inl y) = let z : t ≡ 2 * length b = over (y .steps) in cond-if Ok (eqb (t % 2) 0) _ _ (λ _. free-ok z y) (λ e. let u = eqb-false (t % 2) 0 e in absurd (u (omega arith)))
           go (inr y) = let z = y .steps in cond-if Ok (eqb (t % 2) 0) _ _ (λ e. let u = eqb-true (t % 2) 0 e in absurd (omega arith)) (λ _. last-ok y)
 
+      -- by the test that the rule makes
+      live-ok : (eqb t 0 && isFree (x .status)) ≡ false → EffectFits n k (liveStep d t x .effect) → Ok (liveStep d t x)
+      unfolding liveStep
+      live-ok e = cond-both (λ (q : RecoveryPlan). EffectFits n k (q .effect) → Ok q) t 8 (t / 2) _ _ _ (λ p i. entry-case e (omega arith)) (λ f _. end-case (λ p i. f p (omega arith)))
+
       pub recovery-ok : Ok (recoveryPlan d t x)
-      unfolding recoveryPlan liveStep
+      unfolding recoveryPlan
       recovery-ok = cond-if (λ (q : RecoveryPlan). EffectFits n k (q .effect) → Ok q) (eqb t 0 && isFree (x .status)) _ _
           (λ e _. pass (eqb-true t 0 (and-first (eqb t 0) (isFree (x .status)) e)) (sym (v .status) ∙ is-free (x .status) (and-second (eqb t 0) (isFree (x .status)) e)))
-          (λ e. cond-if (λ (q : RecoveryPlan). EffectFits n k (q .effect) → Ok q) (ltb t 8 && ltb (t / 2) (x .count)) _ _ (entry-case e) (λ f _. end-case f))
+          live-ok
           (recovery-fits n k M (I .fits) d (t / 2) Persisted x v t refl)

@@ -15,7 +15,6 @@ use Rattle.steps.specs.declared.Worker.the-variants.{Idle, Building, Working, R
 use Rattle.steps.specs.declared.RecoveryPlace.{RecoveryPlace}
 use Rattle.steps.specs.declared.RecoveryPlace.the-variants.{Outside, At}
 use Rattle.steps.specs.declared.Effect as F
-use Rattle.steps.specs.Plan.{readPlan, readClearPlan}
 use Rattle.codes.specs.Place.{placeEntry}
 use Rattle.memory.specs.declared.Copy.the-variants.{Cached, Persisted}
 use Rattle.memory.specs.declared.Found.{Found}
@@ -35,6 +34,7 @@ use Rattle.machine.specs.Step.{seenIn, busyAt, workerAfter, planAt, workStep, r
 use Rattle.machine.specs.Recover.{placeAfter, recoveryPlanAt, recoveryStepAt, recoverOf}
 use Rattle.machine.specs.Refused.{all-numbered}
 use Rattle.machine.specs.Apply.{acted, unlessRefused, applyOf}
+use Rattle.ledger.specs.Rules.{readPlan, readClearPlan}
 use Rattle.ledger.specs.Statement.{memoryAt}
 use Rattle.ledger.specs.View.{cellsOf, view}
 use Rattle.ledger.specs.Seen.{block-sees}

@@ -18,13 +18,13 @@ use Rattle.steps.specs.declared.Worker.the-variants.{Idle, Building, Working, R
 use Rattle.steps.specs.declared.Seen.{Seen}
 use Rattle.steps.specs.declared.Effect as F
 use Rattle.steps.specs.declared.Next.{Next}
-use Rattle.steps.specs.Plan.{isDirtyPlain, storeIf, readPlan, readClearPlan}
-use Rattle.steps.specs.Operation.{planOf}
+use Rattle.steps.specs.Plan.{isDirtyPlain, storeIf}
 use Rattle.codes.specs.Place.{placeEntry}
 use Rattle.memory.specs.declared.Copy.{Copy}
 use Rattle.memory.specs.declared.Copy.the-variants.{Cached, Persisted}
 use Rattle.events.specs.Build.{ownerOf}
 use Rattle.machine.specs.Step.{onJob, workerAfter}
+use Rattle.ledger.specs.Rules.{planOf, readPlan, readClearPlan}
 use Rattle.ledger.specs.Update.{clash}
 use Rattle.ledger.specs.Cells.{plain, neither, cellOf, Body, Cells, State, applied, withCells, withWorker}
 use Rattle.ledger.specs.Seen.{Sees}

@@ -18,9 +18,7 @@ use Rattle.steps.specs.declared.More.the-variants.{Done}
 use Rattle.steps.specs.declared.RecoveryPlan.{RecoveryPlan}
 use Rattle.steps.specs.declared.RecoveryPlace.{RecoveryPlace}
 use Rattle.steps.specs.declared.RecoveryPlace.the-variants.{Outside, At}
-use Rattle.steps.specs.Plan.{isFree, readPlan, readClearPlan}
-use Rattle.steps.specs.Operation.{planOf}
-use Rattle.steps.specs.Recovery.{recoveryPlan}
+use Rattle.steps.specs.Plan.{isFree}
 use Rattle.memory.specs.declared.Copy.the-variants.{Cached, Persisted}
 use Rattle.events.specs.declared.Event.{Event}
 use Rattle.events.specs.declared.Event.the-variants.{Crash}
@@ -29,6 +27,7 @@ use Rattle.events.specs.Build.{ownerOf}
 use Rattle.machine.specs.Step.{answerOf, readAnswer}
 use Rattle.machine.specs.Recover.{visitAfter, placeAfter, recoveryAnswer}
 use Rattle.image.specs.PlanLaws.{Past, plan-cases}
+use Rattle.ledger.specs.Rules.{planOf, readPlan, readClearPlan, recoveryPlan}
 use Rattle.ledger.specs.RecoverySteps.{stepIn}
 use Rattle.ledger.specs.Update.{upd-if}
 use Rattle.ledger.specs.Cells.{Body, Cells, State, setStatus, setBody, applied}

@@ -13,19 +13,20 @@ use Rattle.word.specs.declared.Status.{Status}
 use Rattle.word.specs.declared.Status.the-variants.{Free, Undecided, Decided, Bad}
 use Rattle.word.specs.StatusLaws.{Good}
 use Rattle.steps.specs.declared.Place.{Place}
-use Rattle.steps.specs.declared.Place.the-variants.{Install, PersistClear, Decide, Settle, Swap, SwapBack, SwapClear}
+use Rattle.steps.specs.declared.Place.the-variants.{Install, Persist, Decide, Settle, Swap, SwapBack}
 use Rattle.steps.specs.declared.Entry.{Entry}
 use Rattle.steps.specs.declared.Seen.{Seen}
+use Rattle.steps.specs.declared.Effect.the-variants.{Nothing}
 use Rattle.steps.specs.declared.Next.{Next}
-use Rattle.steps.specs.declared.Next.the-variants.{Go, Help}
+use Rattle.steps.specs.declared.Next.the-variants.{Go}
 use Rattle.steps.specs.declared.More.{More}
 use Rattle.steps.specs.declared.More.the-variants.{Then, Done}
 use Rattle.steps.specs.declared.Plan.{Plan}
 use Rattle.steps.specs.Plan.{planned, pointsTo, isDirtyPointer, isDirtyPlain, leftValue, storeIf}
-use Rattle.steps.specs.Operation.{moreOf, installed, installBy, installWord, install, installClear, persisted, persistClear, decide, settle, settleClear, swap, swapped, swapDone, swapClear, planOf}
 use Rattle.codes.specs.Place.{placeEntry}
 use Rattle.memory.specs.declared.Copy.{Copy}
 use Rattle.memory.specs.declared.Copy.the-variants.{Cached, Persisted}
+use Rattle.ledger.specs.Rules.{moreOf, installed, installWord, installBy, install, installClear, persisted, persistClear, decide, settle, settleClear, swap, swapped, swapDone, swapClear, planOf}
 use Rattle.ledger.specs.Update.{clash, upd, upd-same}
 use Rattle.ledger.specs.Cond.{cond-eq, cond-lt}
 use Rattle.ledger.specs.Cells.{plain, pointer, neither, cellOf, Belongs, Body, Cells, setWord, applied}
@@ -110,17 +111,24 @@ module _ {M : Cells} {L : ℕ → ℕ} {In : ℕ → Bool} {Differed : ℕ → T
           (λ q. nothing (Go (Decide Failed)) (seen a (rw same-body at has) (λ z. q ((rw p at (g .value Cached a)) ∙ z ∙ expected)), may owner (at-decide Failed)))
       install-word u (Pointer e dirty) p = cond-eq PlanOk e d _ _
           (λ q. nothing (installed (moreOf i (x .count))) (next-install M (one-more M 0 k (λ _. p ∙ ap pointer q))))
-          (λ q. nothing (Help e) (helped e p))
+          (λ q. (Rule.same, λ f z. z, helped e p))
         where
           helped : (e : ℕ) → M .word Cached a ≡ pointer e → (c : Copy) → M .status c e ≢ Free
           helped e p Cached z = cached-free (g .pair e) z (g .live Cached a e p .0) Cached a p
           helped e p Persisted z = g .live Cached a e p .0 z
       install-word u (Neither w) p = absurd (fits a w p)
 
+      -- what the word asks for while d is undecided; once it is decided, 5. Which of the two, is the rule's to say
+      word-ok : M .status Cached d ≡ Undecided → PlanOk (installWord i d x (x .word))
+      word-ok u = install-word u (x .word) (sym (v .word))
+
+      on-ok : (o : Outcome) (dirty : Bool) → M .status Cached d ≡ Decided o dirty → PlanOk (planned Nothing (Go Settle))
+      on-ok o dirty u = nothing (Go Settle) ((o, (dirty, u)), may owner at-settle)
+
       install-by : (s : Status) → M .status Cached d ≡ s → PlanOk (installBy i d x s)
       install-by Free u = absurd (live Cached u)
-      install-by Undecided u = install-word u (x .word) (sym (v .word))
-      install-by (Decided o dirty) u = nothing (Go Settle) ((o, (dirty, u)), may owner at-settle)
+      install-by Undecided u = search (word-ok, on-ok)
+      install-by (Decided o dirty) u = search (word-ok, on-ok)
       install-by (Bad y) u = absurd (rw u at good)
 
       install-ok : PlanOk (install i d x)
@@ -133,8 +141,8 @@ module _ {M : Cells} {L : ℕ → ℕ} {In : ℕ → Bool} {Differed : ℕ → T
           (λ t. sym (v .word) ∙ ap cellOf (dirty-plain (x .word) w t)) ((k, l), may owner (at-install i))
 
     -- 3.
-    persist-ok : Installed M b d (length b) i → Ok (setWord M Persisted a (M .word Cached a)) (Go (PersistClear i))
-    persist-ok k = (
+    persist-ok : (busy : Bool) → Installed M b d (length b) i → PlanOk (planOf (Persist i) d x busy owner)
+    persist-ok busy k = (
       Rule.back-word a,
       λ e z. z,
       (
@@ -199,8 +207,8 @@ module _ {M : Cells} {L : ℕ → ℕ} {In : ℕ → Bool} {Differed : ℕ → T
             (r, own, ((gone _ (removed-stable (relies r own) k) (λ z. let y : plain (leftValue (x .status) (x .entry)) ≡ pointer d = sym (upd-same (M .word Cached) a (plain (leftValue (x .status) (x .entry)))) ∙ z in clash (cc)), l), may owner (at-swap-back i)))
         go false t = nothing (Go (SwapBack i)) ((gone M k (points-not (x .word) d (M .word Cached a) (sym (v .word)) t), l), may owner (at-swap-back i))
 
-    swap-back-ok : Removed M b d (suc i) i → Ok (setWord M Persisted a (M .word Cached a)) (Go (SwapClear i))
-    swap-back-ok k = (
+    swap-back-ok : (busy : Bool) → Removed M b d (suc i) i → PlanOk (planOf (SwapBack i) d x busy owner)
+    swap-back-ok busy k = (
       Rule.back-word a,
       λ e z. z,
       (
@@ -276,11 +284,11 @@ module _ {M : Cells} {L : ℕ → ℕ} {In : ℕ → Bool} {Differed : ℕ → T
   pub step-ok : (p : Place) → Shared p → (x : Seen) → Sees M Cached d (placeEntry p) x → (busy : Bool) → Knows M b d (Differed d) p → PlanOk (planOf p d x busy owner)
   step-ok p (at-install i) x v busy k = install-ok i (k .1) x v (k .0)
   step-ok p (at-install-clear i w) x v busy k = install-clear-ok i (k .1) x v (k .0) w
-  step-ok p (at-persist i) x v busy k = persist-ok i (k .1) x v (k .0)
+  step-ok p (at-persist i) x v busy k = persist-ok i (k .1) x v busy (k .0)
   step-ok p (at-persist-clear i) x v busy k = persist-clear-ok i (k .1) x v (k .0)
   step-ok p (at-decide o) x v busy k = decide-ok o k (x .status) (sym (v .status))
   step-ok p at-settle x v busy k = settle-ok (k .0) (k .1) (x .status) (sym (v .status))
   step-ok p at-settle-clear x v busy k = settle-clear-ok k (x .status) (sym (v .status))
   step-ok p (at-swap i) x v busy k = swap-ok i (k .1) x v (k .0)
-  step-ok p (at-swap-back i) x v busy k = swap-back-ok i (k .1) x v (k .0)
+  step-ok p (at-swap-back i) x v busy k = swap-back-ok i (k .1) x v busy (k .0)
   step-ok p (at-swap-clear i) x v busy k = swap-clear-ok i (k .1) x v (k .0)
