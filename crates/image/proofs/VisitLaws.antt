@@ -1,5 +1,5 @@
 -- A visit of a descriptor: one law for each answer.
-use mathlib.Core.Path.{_≡_, refl, sym, _∙_}
+use mathlib.Core.Path.{_≡_, refl, sym, ap, _∙_}
 use mathlib.Core.Bool.{Bool, true, false, not, cond}
 use mathlib.Core.List.{List}
 use Prim.Native.Nat.{ℕ, zero, suc, _+_, _-_, _*_, _/_, _%_, _<_, _≤_, _^_}
@@ -20,7 +20,7 @@ use Rattle.image.specs.Layout.{wordOf, descriptorPlace, partOf, statusIn
 use Rattle.image.specs.Check.{badBody}
 use Rattle.image.specs.Good.{live-count, entry-good, entry-small, chosen-small}
 use Rattle.image.specs.Recover.{seenIn, planIn, imageAfter}
-use Rattle.image.specs.Visit.{visited, visitFrom, settled, pickedPlace, valuePlace}
+use Rattle.image.specs.Visit.{Visited, visited, visitFrom, freed, settled, pickedPlace, valuePlace}
 use Rattle.image.proofs.PartLaws.{free-number}
 use Rattle.image.proofs.StepLaws.{settled-length, settled-part, freed-count, next-step, last-step, next-of, end-plan, end-image, last-plan, last-image, visit-entry}
 use Rattle.image.proofs.ClaimLaws.{given, given-part}
@@ -58,13 +58,42 @@ value-is p i s = go (outcomeOf s)
     go Succeeded = refl
     go Failed = refl
 
+-- Free and its write-back
+module _ (n d : ℕ) (x : List ℕ) where
+  pub free-none : (left : ℕ) → left ≡ 0 → visited x Stopped ≡ freed left n x d
+  unfolding freed
+  free-none left e = rw e
+
+  pub free-half : (left : ℕ) (y : List ℕ) → (left ≡ 0 → ⊥) → left - 1 ≡ 0 → y ≡ withNumber x (8 * n + 112 * d) 0 → visited y Stopped ≡ freed left n x d
+  unfolding freed
+  free-half left y h e f = let z : left ≡ 1 = omega arith in rw (z, f)
+
+  pub free-over : (left : ℕ) (y : List ℕ) → (left ≡ 0 → ⊥) → (left - 1 ≡ 0 → ⊥) → y ≡ withNumber x (8 * n + 112 * d) 0 → visited y (Over (left - 1 - 1)) ≡ freed left n x d
+  unfolding freed
+  free-over left y h e f = let z : left ≡ suc (suc (left - 1 - 1)) = omega arith in sym (ap (λ (l : ℕ). freed l n x d) z ∙ rw f)
+
+  -- they are the last two steps of a live descriptor
+  module _ (l : isFree (statusIn (partOf x n d)) ≡ false) (h : descriptorPlace n d + 112 ≤ length x) where
+    freeing : (j : ℕ) → visitFrom (suc j) n x d (2 * countIn (partOf x n d)) ≡ visitFrom j n (withStatus x n d Free) d (suc (2 * countIn (partOf x n d)))
+    freeing j = next-step j n x d (2 * countIn (partOf x n d)) (suc (2 * countIn (partOf x n d))) (next-of _ _ (end-plan n x d l)) ∙ rw (end-image n x d l)
+
+    freed-visits : (left : ℕ) → freed left n x d ≡ visitFrom left n x d (2 * countIn (partOf x n d))
+    unfolding freed visitFrom
+    freed-visits zero = refl
+    freed-visits (suc zero) = sym (freeing 0)
+    freed-visits (suc (suc a)) =
+        let c = countIn (partOf x n d) in
+        let y = withStatus x n d Free in
+        let m : countIn (partOf y n d) ≡ c = freed-count x n d h in
+        sym (freeing (suc a) ∙ (last-step a n y d (suc (2 * c)) (next-of _ _ (last-plan n y d c m)) ∙ rw (last-image n y d c m)))
+
 -- a turn of the loop over the entries: what is left to do from here on is what was left to do
-pub record Going (n d left : ℕ) (x₀ x : List ℕ) (c i : ℕ) : Type 0 where
+pub record Going (n d allowance : ℕ) (x₀ x : List ℕ) (c i left : ℕ) : Type 0 where
   pub within : i ≤ c
   pub few : c ≤ 4
   pub part : partOf x n d ≡ partOf x₀ n d
   pub long : length x ≡ length x₀
-  pub rest : visitFrom (left - 2 * i) n x d (2 * i) ≡ visitFrom left n x₀ d 0
+  pub rest : visitFrom left n x d (2 * i) ≡ visitFrom allowance n x₀ d 0
 
 module _ (n d s c : ℕ) (x₀ : List ℕ) (h : 8 * n + 112 * d + 112 ≤ length x₀) (b : badBody n (partOf x₀ n d) ≡ false) (e : s ≡ numberAt (partOf x₀ n d) 0) (q : 0 < s)
     (g : c ≡ numberAt (given x₀ n d) 8) where
@@ -74,12 +103,10 @@ module _ (n d s c : ℕ) (x₀ : List ℕ) (h : 8 * n + 112 * d + 112 ≤ length
   is-count : c ≡ countIn (partOf x₀ n d)
   is-count = rw (given-part x₀ n d) at g
 
-  pub going-in : (left : ℕ) → Going n d left x₀ x₀ c 0
-  going-in left =
-      let z : left - 2 * 0 ≡ left = omega arith in
-      record { within = omega arith; few = rw is-count (live-count n (partOf x₀ n d) b is-live .1); part = refl; long = refl; rest = rw z }
+  pub going-in : (allowance : ℕ) → Going n d allowance x₀ x₀ c 0 allowance
+  going-in allowance = record { within = omega arith; few = rw is-count (live-count n (partOf x₀ n d) b is-live .1); part = refl; long = refl; rest = refl }
 
-  module _ (left i : ℕ) (x : List ℕ) (k : Going n d left x₀ x c i) where
+  module _ (allowance i left : ℕ) (x : List ℕ) (k : Going n d allowance x₀ x c i left) where
     live-now : isFree (statusIn (partOf x n d)) ≡ false
     live-now = rw (k .part) is-live
 
@@ -89,9 +116,9 @@ module _ (n d s c : ℕ) (x₀ : List ℕ) (h : 8 * n + 112 * d + 112 ≤ length
     fits-now : descriptorPlace n d + 112 ≤ length x
     fits-now = rw (k .long) h
 
-    pub going-stops : left ≤ 2 * i → visited x Stopped ≡ visitFrom left n x₀ d 0
+    pub going-stops : left ≡ 0 → visited x Stopped ≡ visitFrom allowance n x₀ d 0
     unfolding visitFrom
-    going-stops l = let z : left - 2 * i ≡ 0 = omega arith in rw z at (k .rest)
+    going-stops z = rw z at (k .rest)
 
     -- entry i
     module _ (l : i < c) where
@@ -118,44 +145,36 @@ module _ (n d s c : ℕ) (x₀ : List ℕ) (h : 8 * n + 112 * d + 112 ≤ length
         pub value-fits : v < 2 ^ 61
         value-fits = rw is-value (chosen-small (outcomeOf (statusIn (partOf x n d))) (entryIn (partOf x n d) i) (small .1 .0) (small .1 .1))
 
-      pub going-on : (a w v : ℕ) (y : List ℕ) → 2 * i < left → a ≡ numberAt (given x n d) (16 + 24 * i) → w ≡ valuePlace (statusOf s) → v ≡ numberAt (given x n d) (w + 24 * i)
-          → y ≡ settled x d a v → Going n d left x₀ y c (i + 1)
-      going-on a w v y j pa pw pv py =
-          let m : countIn (partOf x n d) ≤ 4 = rw count-now (k .few) in
-          let z : left - 2 * i - 2 ≡ left - 2 * (i + 1) = omega arith in
-          let step = visit-entry n x d live-now fits-now i l-now m a v (is-address a pa) (is-value w v pw pv) (below a pa) (left - 2 * i) (omega arith) in
-          record {
-            within = omega arith;
-            few = k .few;
-            part = rw py (settled-part x n d a v (below a pa) fits-now ∙ k .part);
-            long = rw py (settled-length x d a v ∙ k .long);
-            rest = rw py (sym (rw z at step) ∙ k .rest);
-          }
+      -- its two steps, of an allowance for one at least
+      module _ (a w v : ℕ) (y : List ℕ) (f : left ≡ 0 → ⊥) (pa : a ≡ numberAt (given x n d) (16 + 24 * i)) (pw : w ≡ valuePlace (statusOf s)) (pv : v ≡ numberAt (given x n d) (w + 24 * i))
+          (py : y ≡ settled x d a v) where
+        rest-then : visitFrom (left - 2) n y d (2 * (i + 1)) ≡ visitFrom allowance n x₀ d 0
+        rest-then =
+            let m : countIn (partOf x n d) ≤ 4 = rw count-now (k .few) in
+            let o : 0 < left = omega (arith, f) in
+            rw py (sym (visit-entry n x d live-now fits-now i l-now m a v (is-address a pa) (is-value w v pw pv) (below a pa) left o) ∙ k .rest)
+
+        pub going-halts : left - 1 ≡ 0 → visited y Stopped ≡ visitFrom allowance n x₀ d 0
+        unfolding visitFrom
+        going-halts z = let o : left - 2 ≡ 0 = omega arith in rw o at rest-then
+
+        pub going-on : Going n d allowance x₀ y c (i + 1) (left - 1 - 1)
+        going-on =
+            let z : left - 2 ≡ left - 1 - 1 = omega arith in
+            record {
+              within = omega arith;
+              few = k .few;
+              part = rw py (settled-part x n d a v (below a pa) fits-now ∙ k .part);
+              long = rw py (settled-length x d a v ∙ k .long);
+              rest = rw z at rest-then;
+            }
 
     -- the entries are over
-    module _ (l : c ≤ i) where
-      over : visitFrom (left - 2 * c) n x d (2 * countIn (partOf x n d)) ≡ visitFrom left n x₀ d 0
-      over = let o = k .within in let z : i ≡ c = omega arith in rw count-now (rw z at (k .rest))
-
-      pub ends-before : left ≤ 2 * c → visited x Stopped ≡ visitFrom left n x₀ d 0
-      unfolding visitFrom
-      ends-before m = let z : left - 2 * c ≡ 0 = omega arith in rw z at over
-
-      freeing : (j : ℕ) → visitFrom (suc j) n x d (2 * countIn (partOf x n d)) ≡ visitFrom j n (withStatus x n d Free) d (suc (2 * c))
-      freeing j =
-          next-step j n x d (2 * countIn (partOf x n d)) (suc (2 * countIn (partOf x n d))) (next-of _ _ (end-plan n x d live-now)) ∙ rw (end-image n x d live-now, count-now)
-
-      pub ends-free : (y : List ℕ) → 2 * c < left → left < 2 * c + 2 → y ≡ withNumber x (8 * n + 112 * d) 0 → visited y Stopped ≡ visitFrom left n x₀ d 0
-      unfolding visitFrom
-      ends-free y j m f = let z : left - 2 * c ≡ 1 = omega arith in rw f (sym (freeing 0) ∙ (rw z at over))
-
-      pub ends-over : (y : List ℕ) → 2 * c + 2 ≤ left → y ≡ withNumber x (8 * n + 112 * d) 0 → visited y (Over (left - (2 * c + 2))) ≡ visitFrom left n x₀ d 0
-      ends-over y j f =
-          let o = left - (2 * c + 2) in
-          let z : left - 2 * c ≡ suc (suc o) = omega arith in
-          let m : countIn (partOf (withStatus x n d Free) n d) ≡ c = freed-count x n d fits-now ∙ count-now in
-          let last : visitFrom (suc o) n (withStatus x n d Free) d (suc (2 * c)) ≡ visited (withStatus x n d Free) (Over o) = last-step o n (withStatus x n d Free) d (suc (2 * c)) (next-of _ _ (last-plan n (withStatus x n d Free) d c m)) ∙ rw (last-image n (withStatus x n d Free) d c m) in
-          rw f (sym last ∙ sym (freeing (suc o)) ∙ (rw z at over))
+    pub going-over : (r : Visited) → c ≤ i → r ≡ freed left n x d → r ≡ visitFrom allowance n x₀ d 0
+    going-over r l f =
+        let o = k .within in
+        let z : i ≡ c = omega arith in
+        f ∙ (freed-visits n d x live-now fits-now left ∙ rw (count-now, ← z) (k .rest))
 
 -- any descriptor
 pub visit-none : (n : ℕ) (x : List ℕ) (d left : ℕ) → left ≡ 0 → visited x Stopped ≡ visitFrom left n x d 0

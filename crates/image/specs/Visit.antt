@@ -6,12 +6,13 @@ use Rattle.word.specs.declared.Sort.the-variants.{Plain}
 use Rattle.word.specs.declared.Outcome.{Outcome}
 use Rattle.word.specs.declared.Outcome.the-variants.{Succeeded, Failed}
 use Rattle.word.specs.declared.Status.{Status}
+use Rattle.word.specs.declared.Status.the-variants.{Free}
 use Rattle.steps.specs.declared.More.{More}
 use Rattle.steps.specs.declared.More.the-variants.{Then, Done}
 use Rattle.steps.specs.Plan.{pointsTo, outcomeOf}
 use Rattle.image.specs.declared.recover.Visit.{Visit}
 use Rattle.image.specs.declared.recover.Visit.the-variants.{Over, Stopped}
-use Rattle.image.specs.Layout.{wordOf, withWord}
+use Rattle.image.specs.Layout.{wordOf, withWord, withStatus}
 use Rattle.image.specs.Recover.{planIn, imageAfter}
 
 -- the image then; and what is left of the allowance where the steps are over
@@ -30,6 +31,12 @@ further Done a x rest = visited x (Over a)
 unfoldable pub visitFrom : ℕ → ℕ → List ℕ → ℕ → ℕ → Visited
 visitFrom zero n x d done = visited x Stopped
 visitFrom (suc a) n x d done = further (planIn x n d done .next) a (imageAfter n x d done) (λ s. visitFrom a n (imageAfter n x d done) d s)
+
+-- after the entries: Free is stored, and written back
+unfoldable pub freed : ℕ → ℕ → List ℕ → ℕ → Visited
+freed zero n x d = visited x Stopped
+freed (suc zero) n x d = visited (withStatus x n d Free) Stopped
+freed (suc (suc a)) n x d = visited (withStatus x n d Free) (Over a)
 
 -- an entry's first step: a word at a that points to d becomes v, not dirty
 unfoldable pub settled : List ℕ → ℕ → ℕ → ℕ → List ℕ

@@ -44,18 +44,35 @@ fn value_place(status: u64) -> usize
     24
 }
 
-// A live descriptor: each entry's word and its write-back, then Free and its write-back. A write-back alters no byte.
-fn visit_live(n: u64, image: &mut [u8], d: u64, left: u64, status: u64) -> Visit
+// After the entries: Free, and its write-back, which alters no byte.
+fn free(n: u64, image: &mut [u8], d: u64, allowance: u64) -> Visit
+    requires { ⌜ (n ≤ 64) × (d < 16) ⌝ }
+    ensures { λ r. ⌜ D.visited (now (image .exit)) r ≡ D.freed allowance n (now (image .entry)) d ⌝ }
+{
+    if allowance == 0 {
+        return Visit::Stopped;
+    }
+    write_u64(image, (8 * n + 112 * d) as usize, 0);
+    let left = allowance - 1;
+    if left == 0 {
+        return Visit::Stopped;
+    }
+    Visit::Over(left - 1)
+}
+
+// A live descriptor: each entry's word and its write-back, then Free and its write-back. The allowance falls with each step.
+fn visit_live(n: u64, image: &mut [u8], d: u64, allowance: u64, status: u64) -> Visit
     requires { ⌜ ((n ≤ 64) × (d < 16)) × ((8 * n + 112 * d + 112 ≤ length (now image)) × ((C.badBody n (L.partOf (now image) n d) ≡ false) × ((status ≡ numberAt (L.partOf (now image) n d) 0) × (0 < status)))) ⌝ }
-    ensures { λ r. ⌜ D.visited (now (image .exit)) r ≡ D.visitFrom left n (now (image .entry)) d 0 ⌝ }
+    ensures { λ r. ⌜ D.visited (now (image .exit)) r ≡ D.visitFrom allowance n (now (image .entry)) d 0 ⌝ }
 {
     let from = (8 * n + 112 * d) as usize;
     let to = from + 112;
     let count = read_u64(&image[from..to], 8);
     let value = value_place(status);
+    let mut left = allowance;
     let mut i = 0;
     while i < count {
-        if left <= 2 * i {
+        if left == 0 {
             return Visit::Stopped;
         }
         let at = 24 * i as usize;
@@ -63,16 +80,14 @@ fn visit_live(n: u64, image: &mut [u8], d: u64, left: u64, status: u64) -> Visit
         let a = read_u64(part, 16 + at);
         let v = read_u64(part, value + at);
         settle(image, d, a, v);
+        left = left - 1;
+        if left == 0 {
+            return Visit::Stopped;
+        }
+        left = left - 1;
         i = i + 1;
     }
-    if left <= 2 * count {
-        return Visit::Stopped;
-    }
-    write_u64(image, from, 0);
-    if left < 2 * count + 2 {
-        return Visit::Stopped;
-    }
-    Visit::Over(left - (2 * count + 2))
+    free(n, image, d, left)
 }
 
 // A Free descriptor takes one step, which alters no byte.

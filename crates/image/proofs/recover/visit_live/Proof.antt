@@ -1,14 +1,14 @@
-use Prim.Native.Nat.{_-_}
-use Rattle.image.proofs.VisitLaws.{Going, going-in, going-stops, address-fits, value-fits, going-on, ends-before, ends-free, ends-over}
 use borrow.Author.Needs.{needs}
+use Prim.Native.Nat.{_-_}
+use Rattle.image.proofs.VisitLaws.{Going, going-in, going-stops, address-fits, value-fits, going-halts, going-on, going-over}
 use Rattle.image.proofs.recover.visit_live.Statement.{statement}
 use Rattle.image.proofs.recover.visit_live.Tie as tie
 
 abbrev Inv-loop : tie.InvT-loop
-Inv-loop n image₀ d left status from to count value i₀ image i = Going n d left image₀ image count i
+Inv-loop n image₀ d allowance status from to count value left₀ i₀ image left i = Going n d allowance image₀ image count i left
 
 abbrev μ-loop : tie.MeasureT-loop
-μ-loop n image₀ d left status from to count value i₀ image i = count - i
+μ-loop n image₀ d allowance status from to count value left₀ i₀ image left i = count - i
 
 mul-from : tie.Need-mul-from Inv-loop μ-loop
 mul-from c = search needs
@@ -39,9 +39,6 @@ value-place-requires c κs = search needs
 
 loop-holds : tie.Need-loop-holds Inv-loop μ-loop
 loop-holds c = search (needs, going-in)
-
-mul-if1 : tie.Need-mul-if1 Inv-loop μ-loop
-mul-if1 c = search needs
 
 same-length : tie.Need-same-length Inv-loop μ-loop
 same-length c = search needs
@@ -76,6 +73,18 @@ read-u64-requires-3 c κs = search needs
 settle-requires : tie.Need-settle-requires Inv-loop μ-loop
 settle-requires c κs = (search (needs, address-fits), (search needs, search (needs, value-fits)))
 
+sub-left : tie.Need-sub-left Inv-loop μ-loop
+sub-left c = search needs
+
+same-length-2 : tie.Need-same-length-2 Inv-loop μ-loop
+same-length-2 c = search needs
+
+returns-2 : tie.Need-returns-2 Inv-loop μ-loop
+returns-2 c = search (needs, going-halts)
+
+sub-left-2 : tie.Need-sub-left-2 Inv-loop μ-loop
+sub-left-2 c = search needs
+
 add-i : tie.Need-add-i Inv-loop μ-loop
 add-i c = search needs
 
@@ -84,63 +93,28 @@ loop-less c = search needs
 
 loop-again : tie.Need-loop-again Inv-loop μ-loop
 loop-again c =
-    let read = c .before .before .before .before in
-    let test = read .before .before .before .before .before in
-    let head = test .before in
+    let settle = c .before .before .before in
+    let read = settle .before .before in
+    let test = read .before .before .before .before in
+    let turn = test .before in
+    let head = turn .before in
     let value = head .before in
     let p = value .before .before .before .before .before .pre in
-    going-on _ _ _ _ _ (p .1 .0) (p .1 .1 .0) (p .1 .1 .1 .0) (p .1 .1 .1 .1) (value .before .read-u64 .ensures) _ _ _ (head .loop .inv) (test .loop-test .taken) _ _ _ _
-    (read .before .before .before .before .if1 .left)
+    going-on _ _ _ _ _ (p .1 .0) (p .1 .1 .0) (p .1 .1 .1 .0) (p .1 .1 .1 .1) (value .before .read-u64 .ensures) _ _ _ _ (head .loop .inv) (turn .loop-test .taken) _ _ _ _
+    (test .if1 .left)
     (read .before .read-u642 .ensures)
     (value .value-place .ensures .0)
     (read .read-u643 .ensures)
-    (c .before .before .settle .ensures)
+    (settle .settle .ensures)
 
-mul-if2 : tie.Need-mul-if2 Inv-loop μ-loop
-mul-if2 c = search needs
-
-same-length-2 : tie.Need-same-length-2 Inv-loop μ-loop
-same-length-2 c = search needs
-
-returns-2 : tie.Need-returns-2 Inv-loop μ-loop
-returns-2 c = search (needs, ends-before)
-
-write-u64-requires : tie.Need-write-u64-requires Inv-loop μ-loop
-write-u64-requires c κs = search needs
-
-mul-if3 : tie.Need-mul-if3 Inv-loop μ-loop
-mul-if3 c = search needs
-
-add-if3 : tie.Need-add-if3 Inv-loop μ-loop
-add-if3 c = search needs
+free-requires : tie.Need-free-requires Inv-loop μ-loop
+free-requires c κs = search needs
 
 same-length-3 : tie.Need-same-length-3 Inv-loop μ-loop
 same-length-3 c = search needs
 
 returns-3 : tie.Need-returns-3 Inv-loop μ-loop
-returns-3 c = search (needs, ends-free)
-
-mul-t15 : tie.Need-mul-t15 Inv-loop μ-loop
-mul-t15 c = search needs
-
-add-t16 : tie.Need-add-t16 Inv-loop μ-loop
-add-t16 c = search needs
-
-sub-t17 : tie.Need-sub-t17 Inv-loop μ-loop
-sub-t17 c = search needs
-
-same-length-4 : tie.Need-same-length-4 Inv-loop μ-loop
-same-length-4 c = search needs
-
-returns-4 : tie.Need-returns-4 Inv-loop μ-loop
-returns-4 c =
-    let write = c .before .before .before in
-    let test = write .before .before .before in
-    let head = test .before in
-    let p = head .before .before .before .before .before .before .pre in
-    ends-over _ _ _ _ _ (p .1 .0) (p .1 .1 .0) (p .1 .1 .1 .0) (p .1 .1 .1 .1) (head .before .before .read-u64 .ensures) _ _ _ (head .loop .inv) (test .loop-test .left) _
-    (c .if3 .left)
-    (write .write-u64 .ensures)
+returns-3 c = search (needs, going-over)
 
 pub visit-live-spec : {M : Type 1} → statement M
 visit-live-spec =
@@ -158,7 +132,6 @@ visit-live-spec =
     read-u64-requires
     value-place-requires
     loop-holds
-    mul-if1
     same-length
     returns
     mul-at
@@ -170,19 +143,13 @@ visit-live-spec =
     add-read-u64-2
     read-u64-requires-3
     settle-requires
+    sub-left
+    same-length-2
+    returns-2
+    sub-left-2
     add-i
     loop-less
     loop-again
-    mul-if2
-    same-length-2
-    returns-2
-    write-u64-requires
-    mul-if3
-    add-if3
+    free-requires
     same-length-3
-    returns-3
-    mul-t15
-    add-t16
-    sub-t17
-    same-length-4
-    returns-4)
+    returns-3)
