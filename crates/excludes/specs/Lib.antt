@@ -4,3 +4,8 @@ pub mod Little
 pub mod Codes
 pub mod Steps
 pub mod Memory
+pub mod Events
+pub mod Machine
+pub mod Schedule
+pub mod Feed
+pub mod Answers
