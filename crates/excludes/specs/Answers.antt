@@ -28,7 +28,7 @@ use Rattle.answers.specs.LineLaws.{line-length, last-length}
 use Rattle.excludes.specs.Differ.{clash, differ, by, seen}
 
 -- two texts for which there is room leave different buffers
-apart : (out : List ℕ) (at : ℕ) (x y : List ℕ) → at + length x ≤ length out → at + length y ≤ length out → x ≢ y → putOf out at x ≢ putOf out at y
+pub apart : (out : List ℕ) (at : ℕ) (x y : List ℕ) → at + length x ≤ length out → at + length y ≤ length out → x ≢ y → putOf out at x ≢ putOf out at y
 apart out at x y h l n =
     seen (λ (f : Filled). drop at (take (f .end) (f .bytes)))
     (ap (λ (s : List ℕ). drop at s) (put-before x out at h) ∙ drop-at (take at out) x at (length-take-le at out (omega arith)))
@@ -36,7 +36,7 @@ apart out at x y h l n =
     n
 
 -- a text of at least a byte, where there is room for it, moves the place on
-put-some : (out text : List ℕ) (at : ℕ) → 0 < length text → at + length text ≤ length out → filled out at ≢ putOf out at text
+pub put-some : (out text : List ℕ) (at : ℕ) → 0 < length text → at + length text ≤ length out → filled out at ≢ putOf out at text
 put-some out text at h l = seen (λ (f : Filled). f .end) refl (put-end text out at l) (λ e. omega arith)
 
 pub put-byte-not-nothing : (out : List ℕ) (at b : ℕ) → at < length out → filled out at ≢ putOf out at (b ∷ [])

@@ -120,11 +120,11 @@ remove-not-the-count-alone m d h l k n =
 
 -- along a table: a check of another number, which may hold or not; and one that holds, where the table ends
 module _ (c : Check) (cs : List Check) {r : ℕ} (e : eqb r (c .number) ≡ false) where
-  past : r ≢ firstOf cs → r ≢ firstOf (c ∷ cs)
+  pub past : r ≢ firstOf cs → r ≢ firstOf (c ∷ cs)
   unfolding firstOf
   past n = picked (c .holds) (eqb-false r (c .number) e) n
 
-  up-to : c .holds ≡ true → r ≢ firstOf (c ∷ cs)
+  pub up-to : c .holds ≡ true → r ≢ firstOf (c ∷ cs)
   unfolding firstOf
   up-to h = rw h (eqb-false r (c .number) e)
 

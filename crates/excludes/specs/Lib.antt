@@ -9,3 +9,5 @@ pub mod Machine
 pub mod Schedule
 pub mod Feed
 pub mod Answers
+pub mod Play
+pub mod Image

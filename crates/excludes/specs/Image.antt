@@ -1,0 +1,76 @@
+-- The crate `image`: what its promise rules out.
+use mathlib.Core.Path.{_≡_, refl, sym, ap, _∙_}
+use mathlib.Core.Logic.{_≢_, Ne·symm}
+use mathlib.Core.Bool.{Bool, true, false, cond}
+use mathlib.Core.List.{List, [], _∷_}
+use Prim.Native.Nat.{ℕ, zero, suc, _<_, _≤_}
+use native.Mathlib.Omega.{arith}
+use lib.Dec.{leb}
+use borrow.Author.Tests.{le-leb, lt-leb}
+use Rattle.word.specs.declared.Status.the-variants.{Free}
+use Rattle.steps.specs.declared.RecoveryPlace.the-variants.{At}
+use Rattle.events.specs.Refusal.{check, firstOf}
+use Rattle.image.specs.declared.Recovery.{Recovery}
+use Rattle.image.specs.Layout.{partOf, statusIn}
+use Rattle.image.specs.Check.{badSizes, badLength, badStatuses, badBodies, badWords, badPointers, contentChecks, imageRefusal}
+use Rattle.image.specs.Recover.{runFrom, answerFor, Recovered, recovered, unlessRefused, recoverOf}
+use Rattle.image.specs.Count.{stepsOf, complete-exactly, told}
+use Rattle.image.specs.Ends.{complete-frees}
+use Rattle.image.specs.Cuts.{call-runs}
+use Rattle.excludes.specs.Differ.{clash, by, seen}
+use Rattle.excludes.specs.Events.{past}
+
+abbrev answers : ℕ → ℕ → Recovery
+answers a s = record { answer = a; steps = s }
+
+-- where n and k are in their ranges, the answer is not 1
+module _ (n k : ℕ) (x y : List ℕ) (allowance steps : ℕ) (sizes : badSizes n k ≡ false) where
+  none : 1 ≢ firstOf []
+  unfolding firstOf
+  none e = omega arith
+
+  from-20-on : 1 ≢ firstOf (contentChecks n k x)
+  from-20-on =
+      past (check 20 (badLength n k x)) _ refl
+      (past (check 21 (badStatuses n k x)) _ refl
+      (past (check 22 (badBodies n k x)) _ refl (past (check 23 (badWords n x)) _ refl (past (check 24 (badPointers n k x)) [] refl none))))
+
+  not-1 : 1 ≢ imageRefusal n k x
+  unfolding imageRefusal firstOf
+  not-1 = rw sizes from-20-on
+
+  either : (t : Bool) → 1 ≢ answerFor t
+  either true e = omega arith
+  either false e = omega arith
+
+  pub pmwcas-recover-not-refused-1-always : recovered y (answers 1 steps) ≢ recoverOf n k x allowance
+  unfolding recoverOf
+  pmwcas-recover-not-refused-1-always = go (imageRefusal n k x) not-1
+    where
+      go : (r : ℕ) → 1 ≢ r → recovered y (answers 1 steps) ≢ unlessRefused r n k x allowance
+      go zero h = by (λ (c : Recovered). c .result .answer) (either (runFrom allowance n k x (At 0 0) .complete))
+      go (suc r) h = by (λ (c : Recovered). c .result .answer) h
+
+-- "with zero steps and the image untouched"
+pub pmwcas-recover-not-changed-where-refused : (n k r : ℕ) (x y : List ℕ) (allowance : ℕ) (q : Recovery) → imageRefusal n k x ≡ suc r → y ≢ x → recovered y q ≢ recoverOf n k x allowance
+unfolding recoverOf
+pmwcas-recover-not-changed-where-refused n k r x y allowance q h n' = rw h (by (λ (c : Recovered). c .bytes) n')
+
+-- an accepted image and an allowance that covers the steps of document 01: 2c+2 per live descriptor, 1 per Free one
+module _ (n k : ℕ) (x y : List ℕ) (allowance : ℕ) (accepted : imageRefusal n k x ≡ 0) where
+  pub pmwcas-recover-not-an-invented-count : (a steps : ℕ) → stepsOf n k x ≤ allowance → steps ≢ stepsOf n k x → recovered y (answers a steps) ≢ recoverOf n k x allowance
+  pmwcas-recover-not-an-invented-count a steps h o =
+      seen (λ (c : Recovered). c .result .steps) refl (ap (λ (r : Recovery). r .steps) (told n k x allowance accepted) ∙ rw (le-leb _ _ h)) o
+
+  pub pmwcas-recover-not-complete-early : (steps : ℕ) → allowance < stepsOf n k x → recovered y (answers 0 steps) ≢ recoverOf n k x allowance
+  pmwcas-recover-not-complete-early steps h =
+      let z : recoverOf n k x allowance .result .answer ≡ 256 = ap (λ (r : Recovery). r .answer) (told n k x allowance accepted) ∙ rw (lt-leb _ _ h) in
+      seen (λ (c : Recovered). c .result .answer) refl z (λ e. omega arith)
+
+  -- one live descriptor, and the image changes
+  pub pmwcas-recover-not-nothing : (d : ℕ) (q : Recovery) → d < k → statusIn (partOf x n d) ≢ Free → stepsOf n k x ≤ allowance → recovered x q ≢ recoverOf n k x allowance
+  pmwcas-recover-not-nothing d q l f h =
+      let c : runFrom allowance n k x (At 0 0) .complete ≡ true = complete-exactly n k x allowance accepted ∙ le-leb _ _ h in
+      seen (λ (c : Recovered). statusIn (partOf (c .bytes) n d)) refl
+      (ap (λ (z : List ℕ). statusIn (partOf z n d)) (call-runs n k x allowance accepted) ∙ complete-frees n k x allowance accepted c d l)
+      f
