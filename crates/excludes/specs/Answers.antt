@@ -1,13 +1,12 @@
 -- The crate `answers`: what its promises rule out.
-use mathlib.Core.Path.{_≡_, refl, sym, ap, _∙_}
+use mathlib.Core.Path.{_≡_, refl, ap, _∙_}
 use mathlib.Core.Logic.{_≢_}
-use mathlib.Core.Bool.{true, false}
+use mathlib.Core.Bool.{false}
 use mathlib.Core.List.{List, [], _∷_, _++_}
-use Prim.Native.Nat.{ℕ, suc, _+_, _<_, _≤_}
+use Prim.Native.Nat.{ℕ, _+_, _<_, _≤_}
 use native.Mathlib.Omega.{arith}
 use lib.ListN.{length, getD, take, drop, length-append, List·getD-append}
 use lib.Seq.{drop-at, length-take-le, getD-append-add}
-use borrow.Author.Tests.{lt-ltb, le-ltb}
 use Rattle.word.specs.declared.Sort.the-variants.{Plain}
 use Rattle.word.specs.declared.Outcome.the-variants.{Succeeded, Failed}
 use Rattle.word.specs.Word.{sortOf}
@@ -18,14 +17,13 @@ use Rattle.memory.specs.Fresh.{freshBlock}
 use Rattle.memory.specs.Value.{valueOf}
 use Rattle.events.specs.declared.Answer.{Answer}
 use Rattle.events.specs.declared.Answer.the-variants.{Answered, Moved, Waits}
-use Rattle.events.specs.Event.{lettersOf}
 use Rattle.answers.specs.Decimal.{digitsOf, decimalOf}
 use Rattle.answers.specs.DecimalLaws.{decimal-some}
 use Rattle.answers.specs.Put.{Filled, filled, putOf}
 use Rattle.answers.specs.PutLaws.{put-length, put-end, put-before, put-full}
 use Rattle.answers.specs.Line.{spaced, said, lineOf, valuesBelow, wordsShown, lastLine}
 use Rattle.answers.specs.LineLaws.{line-length, last-length}
-use Rattle.excludes.specs.Differ.{clash, differ, by, seen}
+use Rattle.excludes.specs.Differ.{differ, by, seen}
 
 -- two texts for which there is room leave different buffers
 pub apart : (out : List ℕ) (at : ℕ) (x y : List ℕ) → at + length x ≤ length out → at + length y ≤ length out → x ≢ y → putOf out at x ≢ putOf out at y

@@ -1,11 +1,11 @@
 -- The crate `codes`: what its promises rule out.
-use mathlib.Core.Path.{_≡_, refl, _∙_, ap}
+use mathlib.Core.Path.{_≡_, refl}
 use mathlib.Core.Logic.{_≢_}
 use mathlib.Core.Bool.{true, false}
 use Prim.Native.Nat.{ℕ}
 use Rattle.word.specs.declared.Outcome.the-variants.{Succeeded, Failed}
 use Rattle.steps.specs.declared.Place.{Place}
-use Rattle.steps.specs.declared.Place.the-variants.{BackBody, InstallClear, BackFree}
+use Rattle.steps.specs.declared.Place.the-variants.{BackBody, BackFree}
 use Rattle.steps.specs.declared.Own.{Own}
 use Rattle.steps.specs.declared.Own.the-variants.{Operation, Read}
 use Rattle.steps.specs.declared.Worker.{Worker}

@@ -7,7 +7,7 @@ use native.Mathlib.Omega.{arith}
 use lib.ListN.{length, getD, take}
 use borrow.Author.Tests.{lt-ltb}
 use Rattle.feed.specs.Feed.{Kept, kept, moved, keptOf}
-use Rattle.excludes.specs.Differ.{differ, by, seen}
+use Rattle.excludes.specs.Differ.{differ, by}
 
 -- the bytes go to the start of the buffer, and are counted
 pub keep-not-left-where-they-were : kept (1 ∷ 2 ∷ 3 ∷ []) 2 ≢ keptOf (1 ∷ 2 ∷ 3 ∷ []) 1 3

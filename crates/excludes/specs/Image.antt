@@ -1,11 +1,10 @@
 -- The crate `image`: what its promise rules out.
-use mathlib.Core.Path.{_≡_, refl, sym, ap, _∙_}
-use mathlib.Core.Logic.{_≢_, Ne·symm}
-use mathlib.Core.Bool.{Bool, true, false, cond}
-use mathlib.Core.List.{List, [], _∷_}
+use mathlib.Core.Path.{_≡_, refl, ap, _∙_}
+use mathlib.Core.Logic.{_≢_}
+use mathlib.Core.Bool.{Bool, true, false}
+use mathlib.Core.List.{List, []}
 use Prim.Native.Nat.{ℕ, zero, suc, _<_, _≤_}
 use native.Mathlib.Omega.{arith}
-use lib.Dec.{leb}
 use borrow.Author.Tests.{le-leb, lt-leb}
 use Rattle.word.specs.declared.Status.the-variants.{Free}
 use Rattle.steps.specs.declared.RecoveryPlace.the-variants.{At}
@@ -17,7 +16,7 @@ use Rattle.image.specs.Recover.{runFrom, answerFor, Recovered, recovered, unles
 use Rattle.image.specs.Count.{stepsOf, complete-exactly, told}
 use Rattle.image.specs.Ends.{complete-frees}
 use Rattle.image.specs.Cuts.{call-runs}
-use Rattle.excludes.specs.Differ.{clash, by, seen}
+use Rattle.excludes.specs.Differ.{by, seen}
 use Rattle.excludes.specs.Events.{past}
 
 abbrev answers : ℕ → ℕ → Recovery

@@ -1,10 +1,9 @@
 -- The crate `machine`: what its promises rule out. The useless versions of document 01 that answer or change by steps are among them.
 use mathlib.Core.Path.{_≡_, refl, ap, _∙_, sym}
 use mathlib.Core.Logic.{_≢_}
-use mathlib.Core.Bool.{Bool, true, false, _||_}
+use mathlib.Core.Bool.{false}
 use Prim.Native.Nat.{ℕ, suc, _+_, _*_, _/_, _<_, _≤_}
 use native.Mathlib.Omega.{arith}
-use lib.Dec.{ltb}
 use borrow.Author.Tests.{lt-leb, le-ltb}
 use Rattle.word.specs.declared.Outcome.{Outcome}
 use Rattle.word.specs.declared.Outcome.the-variants.{Succeeded, Failed}
@@ -22,8 +21,7 @@ use Rattle.steps.specs.declared.RecoveryPlace.{RecoveryPlace}
 use Rattle.steps.specs.declared.RecoveryPlace.the-variants.{Outside, At}
 use Rattle.steps.specs.declared.RecoveryPlan.{RecoveryPlan}
 use Rattle.steps.specs.Plan.{isFree}
-use Rattle.steps.specs.Recovery.{recoveryStep, recoveryPlan}
-use Rattle.codes.specs.Row.{rowOf}
+use Rattle.steps.specs.Recovery.{recoveryStep}
 use Rattle.memory.specs.declared.Copy.the-variants.{Cached, Persisted}
 use Rattle.memory.specs.Block.{Block}
 use Rattle.memory.specs.Block.Field.{word}
@@ -38,7 +36,7 @@ use Rattle.events.specs.declared.Event.the-variants.{Step, Recover}
 use Rattle.events.specs.declared.Answer as A
 use Rattle.events.specs.declared.Answer.the-variants.{Moved, Answered, Recovered, Refused}
 use Rattle.events.specs.Left.{Left, left}
-use Rattle.events.specs.Refusal.{firstOf, refusalOf, isIdle, isBuilding}
+use Rattle.events.specs.Refusal.{firstOf, refusalOf}
 use Rattle.machine.specs.Step.{seenIn, answerOf, planAt, workStep, stepOf}
 use Rattle.machine.specs.Recover.{visitAfter, placeAfter, recoveryAnswer, recoveryPlanAt, recoveryStepAt, recoverOf}
 use Rattle.machine.specs.Apply.{applyOf}

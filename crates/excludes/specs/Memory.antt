@@ -1,16 +1,16 @@
 -- The crate `memory`: what its promises rule out. The blocks are any that are whole; where a fault shows only in some, the premise says in which.
-use mathlib.Core.Path.{_≡_, refl, sym, ap, _∙_}
+use mathlib.Core.Path.{_≡_, refl, _∙_}
 use mathlib.Core.Logic.{_≢_, Ne·symm}
 use mathlib.Core.Bool.{Bool, true, false, cond, _&&_}
 use Prim.Native.Nat.{ℕ, zero, suc, _+_, _<_, _≤_}
 use native.Mathlib.Omega.{arith}
-use lib.Dec.{eqb, leb, ltb}
+use lib.Dec.{eqb, ltb}
 use borrow.Author.Tests.{lt-leb, lt-ltb, le-ltb, eqb-true, eqb-false}
 use Rattle.word.specs.declared.Sort.{Sort}
 use Rattle.word.specs.declared.Sort.the-variants.{Plain, Pointer}
 use Rattle.word.specs.declared.Outcome.the-variants.{Succeeded}
 use Rattle.word.specs.declared.Status.{Status}
-use Rattle.word.specs.declared.Status.the-variants.{Decided, Undecided}
+use Rattle.word.specs.declared.Status.the-variants.{Decided}
 use Rattle.word.specs.Laws.{Formed}
 use Rattle.word.specs.StatusLaws.{StatusFormed}
 use Rattle.steps.specs.declared.Entry.{Entry}
@@ -36,7 +36,7 @@ use Rattle.memory.specs.Fields.{Whole, Somewhere, word-somewhere, status-somewh
 use Rattle.memory.specs.Laws.{word-stored, word-backed, status-stored, status-backed, same-word, same-status, same-entry, same-worker, same-value}
 use Rattle.memory.specs.StoreLaws.{entry-stored, entry-other, cleared-zero, row-whole, row-other, workers-apart, worker-stored, idled-idle, recovery-stored}
 use Rattle.memory.specs.CopyLaws.{copied-other, body-backed, crash-word, crash-status}
-use Rattle.memory.specs.FreshLaws.{fresh-count, fresh-recovery, fresh-sizes, fresh-word}
+use Rattle.memory.specs.FreshLaws.{fresh-count, fresh-recovery, fresh-sizes}
 use Rattle.excludes.specs.Differ.{clash, by, seen, picked}
 
 -- one number: a store that is left out; one that goes to another number too

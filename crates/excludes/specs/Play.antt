@@ -1,9 +1,9 @@
 -- The crate `play`: what its promises rule out.
-use mathlib.Core.Path.{_≡_, refl, sym, ap, _∙_}
+use mathlib.Core.Path.{_≡_, refl}
 use mathlib.Core.Logic.{_≢_}
-use mathlib.Core.Bool.{true, false}
+use mathlib.Core.Bool.{false}
 use mathlib.Core.List.{List, [], _∷_, _++_}
-use Prim.Native.Nat.{ℕ, zero, suc, _+_, _/_, _<_, _≤_}
+use Prim.Native.Nat.{ℕ, zero, suc, _+_, _<_, _≤_}
 use native.Mathlib.Omega.{arith}
 use lib.ListN.{length, length-append}
 use Rattle.memory.specs.Block.{Block}
@@ -19,7 +19,7 @@ use Rattle.play.specs.declared.Progress.{Progress}
 use Rattle.play.specs.Tick.{Played, begunIn, playOf, closing}
 use Rattle.play.specs.Done.{Done, done, doneFrom, turnsFor, playedInto}
 use Rattle.play.specs.Split.{headFor, record-goes, unknown-ends, short-rests}
-use Rattle.excludes.specs.Differ.{by, seen}
+use Rattle.excludes.specs.Differ.{by}
 use Rattle.excludes.specs.Answers.{apart, put-some}
 
 -- an output with room for a line, and what stands at the front of the input

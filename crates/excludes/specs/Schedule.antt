@@ -1,7 +1,7 @@
 -- The crate `schedule`: what its promises rule out.
-use mathlib.Core.Path.{_≡_, refl, sym, ap, _∙_}
+use mathlib.Core.Path.{_≡_, refl, ap, _∙_}
 use mathlib.Core.Logic.{_≢_}
-use mathlib.Core.Bool.{Bool, true, false}
+use mathlib.Core.Bool.{true, false}
 use mathlib.Core.List.{List, [], _∷_}
 use Prim.Native.Nat.{ℕ, _<_, _≤_}
 use lib.Dec.{leb}
@@ -12,7 +12,7 @@ use Rattle.memory.specs.declared.Sizes.{Sizes}
 use Rattle.events.specs.declared.Event.{Event}
 use Rattle.events.specs.declared.Event.the-variants.{Add}
 use Rattle.events.specs.Event.{kindOf}
-use Rattle.schedule.specs.declared.Head.the-variants.{Record, Unknown, Short, End}
+use Rattle.schedule.specs.declared.Head.the-variants.{Record, Short}
 use Rattle.schedule.specs.Record.{lengthOf, known, after, verdictOf, headOf, bodyOf}
 use Rattle.schedule.specs.Content.{eventOf, setupOf}
 use Rattle.schedule.specs.Kinds.{event-kind}

@@ -13,7 +13,7 @@ use Rattle.word.specs.declared.Outcome.the-variants.{Succeeded, Failed}
 use Rattle.word.specs.declared.Status.{Status}
 use Rattle.word.specs.declared.Status.the-variants.{Free, Undecided, Decided, Bad}
 use Rattle.steps.specs.declared.Place.{Place}
-use Rattle.steps.specs.declared.Place.the-variants.{BackBody, Install, Decide, Settle, SettleClear, Swap, SwapBack, StoreFree, BackFree}
+use Rattle.steps.specs.declared.Place.the-variants.{BackBody, Install, Decide, Swap, SwapBack, StoreFree, BackFree}
 use Rattle.steps.specs.declared.Seen.{Seen}
 use Rattle.steps.specs.declared.Effect.{Effect}
 use Rattle.steps.specs.declared.Effect.the-variants.{Nothing, StoreWord, StoreStatus, BackStatus}
@@ -31,7 +31,7 @@ use Rattle.steps.specs.Plan.{planned, pointsTo, isDirtyPointer, isDirtyPlain, i
 use Rattle.steps.specs.Operation.{moreOf, installWord, installBy, install, installClear, persistClear, decide, settle, settleClear, swap, swapped, swapClear, storeFree}
 use Rattle.steps.specs.Recovery.{recoveryStep, recoveryPlan}
 use Rattle.image.specs.PlanLaws.{plan-cases}
-use Rattle.excludes.specs.Differ.{clash, differ, by, picked}
+use Rattle.excludes.specs.Differ.{clash, by, picked}
 
 by-effect : {p q : Plan} → p .effect ≢ q .effect → p ≢ q
 by-effect = by (λ (p : Plan). p .effect)

@@ -1,14 +1,13 @@
 -- The crate `word`: what its promises rule out.
-use mathlib.Core.Path.{_≡_, sym, _∙_}
+use mathlib.Core.Path.{_≡_, _∙_}
 use mathlib.Core.Logic.{_≢_}
 use mathlib.Core.Bool.{Bool, true, false}
-use Prim.Native.Nat.{ℕ, _+_, _%_, _^_, _<_, _≤_}
+use Prim.Native.Nat.{ℕ, _+_, _^_, _<_, _≤_}
 use native.Mathlib.Omega.{arith}
-use Rattle.word.specs.declared.Sort.{Sort}
-use Rattle.word.specs.declared.Sort.the-variants.{Plain, Pointer, Neither}
+use Rattle.word.specs.declared.Sort.the-variants.{Plain, Pointer}
 use Rattle.word.specs.declared.Outcome.{Outcome}
 use Rattle.word.specs.declared.Outcome.the-variants.{Succeeded, Failed}
-use Rattle.word.specs.declared.Status.the-variants.{Free, Undecided, Decided, Bad}
+use Rattle.word.specs.declared.Status.the-variants.{Undecided, Decided, Bad}
 use Rattle.word.specs.Word.{sortOf, plainWord, pointerWord, wordNumber, wordCleared}
 use Rattle.word.specs.Status.{statusOf, outcomeNumber, statusNumber, statusCleared}
 use Rattle.word.specs.Laws.{word-made}
