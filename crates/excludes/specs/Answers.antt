@@ -44,6 +44,9 @@ put-byte-not-nothing out at b h = put-some out (b ∷ []) at (omega arith) (omeg
 pub put-byte-not-past-the-end : (out x : List ℕ) (at b : ℕ) → length out ≤ at → filled x (at + 1) ≢ putOf out at (b ∷ [])
 put-byte-not-past-the-end out x at b h = rw (put-full out at (b ∷ []) h) (by (λ (f : Filled). f .end) (λ e. omega arith))
 
+pub put-text-not-nothing : (out text : List ℕ) (at : ℕ) → 0 < length text → at + length text ≤ length out → filled out at ≢ putOf out at text
+put-text-not-nothing out text at h l = put-some out text at h l
+
 pub put-text-not-a-longer-buffer : (out x text : List ℕ) (at r : ℕ) → length x ≢ length out → filled x r ≢ putOf out at text
 put-text-not-a-longer-buffer out x text at r n = seen (λ (f : Filled). length (f .bytes)) refl (put-length out at text) n
 
@@ -70,6 +73,13 @@ lines-apart : (out : List ℕ) (at i : ℕ) (a b : Answer) → at + 45 ≤ lengt
 lines-apart out at i a b h k l n =
     apart out at (lineOf i a) (lineOf i b) (omega (arith, line-length i a)) (omega (arith, line-length i b))
     (seen (λ (s : List ℕ). getD s (length (decimalOf i) + 1) 0) (letter i a k) (letter i b l) n)
+
+pub line-some : (i : ℕ) (a : Answer) → 0 < length (lineOf i a)
+unfolding lineOf
+line-some i a = omega (arith, length-append (decimalOf i ++ said a) (10 ∷ []))
+
+pub put-line-not-nothing : (out : List ℕ) (at i : ℕ) (a : Answer) → at + 45 ≤ length out → filled out at ≢ putOf out at (lineOf i a)
+put-line-not-nothing out at i a h = put-some out (lineOf i a) at (line-some i a) (omega (arith, line-length i a))
 
 pub put-line-not-failed-always : (out : List ℕ) (at i : ℕ) → at + 45 ≤ length out → putOf out at (lineOf i (Answered Failed)) ≢ putOf out at (lineOf i (Answered Succeeded))
 put-line-not-failed-always out at i h = lines-apart out at i (Answered Failed) (Answered Succeeded) h (omega arith) (omega arith) (λ e. omega arith)

@@ -3,7 +3,7 @@ use mathlib.Core.Path.{_≡_, refl, sym, ap, _∙_, subst}
 use mathlib.Core.Logic.{_≢_}
 use mathlib.Core.Bool.{Bool, true, false, _&&_, _||_}
 use mathlib.Core.List.{List, [], _∷_}
-use Prim.Native.Nat.{ℕ, suc, _^_, _<_, _≤_}
+use Prim.Native.Nat.{ℕ, suc, _-_, _^_, _<_, _≤_}
 use native.Mathlib.Omega.{arith}
 use lib.Dec.{eqb, leb}
 use borrow.Author.Tests.{lt-leb, le-leb, lt-ltb, ne-eqb, eqb-false}
@@ -21,18 +21,19 @@ use Rattle.memory.specs.declared.Found.{Found}
 use Rattle.memory.specs.declared.Found.the-variants.{Here, Missing}
 use Rattle.memory.specs.Block.{Block, get}
 use Rattle.memory.specs.Block.Field.{body}
-use Rattle.memory.specs.Content.{statusIn, countIn, putCount, entryIn, putEntry, clearBody, putWorker, recoveryIn}
+use Rattle.memory.specs.Content.{statusIn, countIn, putCount, entryIn, putEntry, clearBody, workerIn, putWorker, recoveryIn}
 use Rattle.memory.specs.Fresh.{sizesIn}
 use Rattle.memory.specs.Value.{entryFor}
 use Rattle.memory.specs.Fields.{Whole, body-somewhere, get-put, get-other}
 use Rattle.memory.specs.Laws.{same-entry}
-use Rattle.memory.specs.StoreLaws.{entry-stored, entry-other, entry-whole, cleared-zero, row-other}
+use Rattle.memory.specs.StoreLaws.{entry-stored, entry-other, entry-whole, cleared-zero, cleared-whole, row-other, worker-stored}
+use Rattle.events.specs.declared.Answer.{Answer}
 use Rattle.events.specs.declared.Answer.the-variants.{Opened, Refused}
 use Rattle.events.specs.Left.{Left, left}
 use Rattle.events.specs.Build.{ownerOf, qualifies, lowestBelow, opened, buildOf, noEntry, inserted, added, movedDown, removedEntry, removedAt}
 use Rattle.events.specs.Lowest.{Says, lowest-says}
 use Rattle.events.specs.Refusal.{Check, firstOf, isIdle, noWorker, inRecovery, ownsSomething, notBuilding, tooLarge, alreadyAdded, notThere, countZero, openChecks, addChecks, removeChecks, submitChecks, discardChecks, readChecks, stepChecks, noAddress, noDescriptor, outsideRecovery}
-use Rattle.machine.specs.Whole.{inserted-whole}
+use Rattle.machine.specs.Whole.{inserted-whole, moved-whole}
 use Rattle.excludes.specs.Differ.{clash, by, seen, picked}
 
 pub build-of-not-0-always : (d : ℕ) → 0 ≢ d → 0 ≢ buildOf (Building d)
@@ -77,6 +78,10 @@ open-found-not-the-old-body m w d j h l k n =
     (row-other (clearBody m d) w (rowOf (Building d)) (body Cached d j) (λ i p e. clash (cc)) ∙ cleared-zero m d 13 j h l (omega arith) k)
     n
 
+pub open-found-not-nothing : (m : Block) (w d : ℕ) (a : Answer) → Whole m → w < 8 → workerIn m w ≢ Building d → left m a ≢ opened m w (Here d)
+open-found-not-nothing m w d a h l n =
+    seen (λ (x : Left). workerIn (x .memory) w) refl (worker-stored (clearBody m d) w (Building d) (cleared-whole m d 13 h) l) n
+
 pub open-found-not-refused-always : (m x : Block) (w d r : ℕ) → left x (Refused r) ≢ opened m w (Here d)
 open-found-not-refused-always m x w d r = by (λ (y : Left). y .answer) (λ e. clash (cc))
 
@@ -104,6 +109,15 @@ add-not-at-the-end-always m d e h l k o =
     (seen (λ x. entryIn Cached x d 0 .address)
     (ap (λ (x : Entry). x .address) (first-kept _ d 2 ∙ beside m d 0 e))
     (ap (λ (x : Entry). x .address) (first-kept _ d 2 ∙ entry-stored _ d 0 e (entry-whole m d 1 _ h) l (omega arith)))
+    (λ q. omega arith))
+
+pub remove-not-nothing : (m : Block) (d i : ℕ) → Whole m → d < 16 → i < countIn Cached m d → m ≢ removedAt m d (Here i)
+unfolding removedEntry
+remove-not-nothing m d i h l k =
+    let c = countIn Cached m d in
+    rw (lt-ltb i c k)
+    (seen (λ x. countIn Cached x d) refl
+    (get-put (movedDown (c - 1 - i) m d i) (body Cached d 0) (c - 1) (moved-whole (c - 1 - i) m d i h) (body-somewhere Cached d 0 l (omega arith)))
     (λ q. omega arith))
 
 -- "later entries move down, the place left over becomes zeros"
@@ -172,12 +186,20 @@ refuse-remove-not-accepted-where-missing m w a x =
 pub refuse-remove-not-14-before-8 : (m : Block) (w a : ℕ) (f : Found) → 14 ≢ firstOf (removeChecks m w Idle a f)
 refuse-remove-not-14-before-8 m w a f = past (noWorker m w) _ refl (past (inRecovery m) _ refl (up-to (notBuilding Idle) _ refl refl))
 
+pub refuse-remove-not-always : (m : Block) (w d a i r : ℕ) → w < sizesIn m .w → recoveryIn m ≡ Outside → a < sizesIn m .n → r ≢ 0 → r ≢ firstOf (removeChecks m w (Building d) a (Here i))
+unfolding firstOf
+refuse-remove-not-always m w d a i r h l k n = rw (lt-leb _ _ h, l, lt-leb _ _ k) n
+
 pub refuse-submit-not-accepted-at-count-0 : (m : Block) (w : ℕ) (x : Worker) → countIn Cached m (buildOf x) ≡ 0 → 0 ≢ firstOf (submitChecks m w x)
 refuse-submit-not-accepted-at-count-0 m w x h =
     past (noWorker m w) _ refl (past (inRecovery m) _ refl (past (notBuilding x) _ refl (up-to (countZero m (buildOf x)) _ refl (rw h))))
 
 pub refuse-submit-not-15-before-8 : (m : Block) (w : ℕ) → 15 ≢ firstOf (submitChecks m w Idle)
 refuse-submit-not-15-before-8 m w = past (noWorker m w) _ refl (past (inRecovery m) _ refl (up-to (notBuilding Idle) _ refl refl))
+
+pub refuse-submit-not-always : (m : Block) (w d r : ℕ) → w < sizesIn m .w → recoveryIn m ≡ Outside → countIn Cached m d ≢ 0 → r ≢ 0 → r ≢ firstOf (submitChecks m w (Building d))
+unfolding firstOf
+refuse-submit-not-always m w d r h l k n = rw (lt-leb _ _ h, l, ne-eqb _ _ k) n
 
 pub refuse-discard-not-accepted-idle : (m : Block) (w : ℕ) → 0 ≢ firstOf (discardChecks m w Idle)
 refuse-discard-not-accepted-idle m w = past (noWorker m w) _ refl (past (inRecovery m) _ refl (up-to (notBuilding Idle) _ refl refl))
@@ -192,6 +214,10 @@ refuse-read-not-accepted-at-n m w x =
 
 pub refuse-read-not-10-before-7 : (m : Block) (w a : ℕ) (x : Worker) → isIdle x ≡ false → 10 ≢ firstOf (readChecks m w x a)
 refuse-read-not-10-before-7 m w a x h = past (noWorker m w) _ refl (past (inRecovery m) _ refl (up-to (ownsSomething x) _ refl (rw h)))
+
+pub refuse-read-not-always : (m : Block) (w a r : ℕ) → w < sizesIn m .w → recoveryIn m ≡ Outside → a < sizesIn m .n → r ≢ 0 → r ≢ firstOf (readChecks m w Idle a)
+unfolding firstOf
+refuse-read-not-always m w a r h l k n = rw (lt-leb _ _ h, l, lt-leb _ _ k) n
 
 pub refuse-step-not-always : (m : Block) (w e r : ℕ) (o : Own) (p : Place) → w < sizesIn m .w → recoveryIn m ≡ Outside → r ≢ 0 → r ≢ firstOf (stepChecks m w (Working o e p))
 unfolding firstOf

@@ -5,6 +5,7 @@ use mathlib.Core.Bool.{Bool, true, false}
 use mathlib.Core.List.{List, []}
 use Prim.Native.Nat.{ℕ, zero, suc, _<_, _≤_}
 use native.Mathlib.Omega.{arith}
+use lib.Dec.{leb}
 use borrow.Author.Tests.{le-leb, lt-leb}
 use Rattle.word.specs.declared.Status.the-variants.{Free}
 use Rattle.steps.specs.declared.RecoveryPlace.the-variants.{At}
@@ -55,8 +56,16 @@ pub pmwcas-recover-not-changed-where-refused : (n k r : ℕ) (x y : List ℕ) (a
 unfolding recoverOf
 pmwcas-recover-not-changed-where-refused n k r x y allowance q h n' = rw h (by (λ (c : Recovered). c .bytes) n')
 
--- an accepted image and an allowance that covers the steps of document 01: 2c+2 per live descriptor, 1 per Free one
+-- an accepted image; `stepsOf` is the sum of document 01's steps: 2c+2 per live descriptor, 1 per Free one
 module _ (n k : ℕ) (x y : List ℕ) (allowance : ℕ) (accepted : imageRefusal n k x ≡ 0) where
+  pub pmwcas-recover-not-refused-always : (a steps : ℕ) → a ≢ 0 → a ≢ 256 → recovered y (answers a steps) ≢ recoverOf n k x allowance
+  pmwcas-recover-not-refused-always a steps o p =
+      seen (λ (c : Recovered). c .result .answer) refl (ap (λ (r : Recovery). r .answer) (told n k x allowance accepted)) (go (leb (stepsOf n k x) allowance))
+    where
+      go : (t : Bool) → a ≢ answerFor t
+      go true = o
+      go false = p
+
   pub pmwcas-recover-not-an-invented-count : (a steps : ℕ) → stepsOf n k x ≤ allowance → steps ≢ stepsOf n k x → recovered y (answers a steps) ≢ recoverOf n k x allowance
   pmwcas-recover-not-an-invented-count a steps h o =
       seen (λ (c : Recovered). c .result .steps) refl (ap (λ (r : Recovery). r .steps) (told n k x allowance accepted) ∙ rw (le-leb _ _ h)) o

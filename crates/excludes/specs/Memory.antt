@@ -36,7 +36,7 @@ use Rattle.memory.specs.Fields.{Whole, Somewhere, word-somewhere, status-somewh
 use Rattle.memory.specs.Laws.{word-stored, word-backed, status-stored, status-backed, same-word, same-status, same-entry, same-worker, same-value}
 use Rattle.memory.specs.StoreLaws.{entry-stored, entry-other, cleared-zero, row-whole, row-other, workers-apart, worker-stored, idled-idle, recovery-stored}
 use Rattle.memory.specs.CopyLaws.{copied-other, body-backed, crash-word, crash-status}
-use Rattle.memory.specs.FreshLaws.{fresh-count, fresh-recovery, fresh-sizes}
+use Rattle.memory.specs.FreshLaws.{fresh-word, fresh-count, fresh-recovery, fresh-sizes}
 use Rattle.excludes.specs.Differ.{clash, by, seen, picked}
 
 -- one number: a store that is left out; one that goes to another number too
@@ -225,7 +225,11 @@ read-sizes-not-the-room n k w h = rw (fresh-sizes n k w) (by (λ (x : Sizes). x 
 pub read-sizes-not-n-and-k-exchanged : (n k w : ℕ) → k ≢ n → record { n = k; k = n; w = w } ≢ sizesIn (freshBlock n k w)
 read-sizes-not-n-and-k-exchanged n k w h = rw (fresh-sizes n k w) (by (λ (x : Sizes). x .n) h)
 
--- in range, and past it by one and more
+-- sizes in range, and past it
+pub fresh-not-nothing : (m : Block) (c : Copy) (n k w a : ℕ) (r : Bool) → goodSizes n k w ≡ true → wordIn c m a ≢ Plain 0 false → begun m r ≢ freshOf m n k w
+unfolding freshOf
+fresh-not-nothing m c n k w a r h o = rw h (seen (λ (b : Begun). wordIn c (b .memory) a) refl (fresh-word n k w c a) o)
+
 pub fresh-not-refused-always : (m x : Block) (n k w : ℕ) → goodSizes n k w ≡ true → begun x false ≢ freshOf m n k w
 unfolding freshOf
 fresh-not-refused-always m x n k w h = rw h (by (λ (b : Begun). b .accepted) (λ e. clash (cc)))

@@ -11,7 +11,7 @@ use Rattle.events.specs.declared.Answer.the-variants.{Refused}
 use Rattle.schedule.specs.declared.Head.the-variants.{Record, Unknown, Short}
 use Rattle.answers.specs.Decimal.{digitsOf, decimalOf}
 use Rattle.answers.specs.Put.{Filled, filled, putOf}
-use Rattle.answers.specs.Line.{said, lineOf, lastLine}
+use Rattle.answers.specs.Line.{lineOf, lastLine}
 use Rattle.answers.specs.LineLaws.{line-length, last-length}
 use Rattle.play.specs.declared.Stage.{Stage}
 use Rattle.play.specs.declared.Stage.the-variants.{First, At, Over}
@@ -20,7 +20,7 @@ use Rattle.play.specs.Tick.{Played, begunIn, playOf, closing}
 use Rattle.play.specs.Done.{Done, done, doneFrom, turnsFor, playedInto}
 use Rattle.play.specs.Split.{headFor, record-goes, unknown-ends, short-rests}
 use Rattle.excludes.specs.Differ.{by}
-use Rattle.excludes.specs.Answers.{apart, put-some}
+use Rattle.excludes.specs.Answers.{apart, put-some, line-some}
 
 -- an output with room for a line, and what stands at the front of the input
 module _ (m y : Block) (s : Stage) (x out z : List ℕ) (r : Progress) where
@@ -60,12 +60,8 @@ pub finish-not-silent-at-empty-input : (m : Block) (out : List ℕ) → 6 ≤ le
 unfolding lineOf decimalOf digitsOf
 finish-not-silent-at-empty-input m out h = put-some out (closing First m []) 0 (omega arith) (omega arith)
 
-line-some : (i : ℕ) → 0 < length (lineOf i (Refused 2))
-unfolding lineOf
-line-some i = omega (arith, length-append (decimalOf i ++ said (Refused 2)) (10 ∷ []))
-
 pub finish-not-silent-at-a-cut-record : (m : Block) (i b : ℕ) (bs out : List ℕ) → 1391 ≤ length out → putOf out 0 (lastLine m) ≢ putOf out 0 (closing (At i) m (b ∷ bs))
 finish-not-silent-at-a-cut-record m i b bs out h =
     let k = length-append (lineOf i (Refused 2)) (lastLine m) in
     apart out 0 (lastLine m) (lineOf i (Refused 2) ++ lastLine m) (omega (arith, last-length m)) (omega (arith, k, line-length i (Refused 2), last-length m))
-    (by (λ (t : List ℕ). length t) (λ e. omega (arith, k, line-some i)))
+    (by (λ (t : List ℕ). length t) (λ e. omega (arith, k, line-some i (Refused 2))))

@@ -12,7 +12,7 @@ use Rattle.memory.specs.declared.Sizes.{Sizes}
 use Rattle.events.specs.declared.Event.{Event}
 use Rattle.events.specs.declared.Event.the-variants.{Add}
 use Rattle.events.specs.Event.{kindOf}
-use Rattle.schedule.specs.declared.Head.the-variants.{Record, Short}
+use Rattle.schedule.specs.declared.Head.the-variants.{Record, Unknown, Short}
 use Rattle.schedule.specs.Record.{lengthOf, known, after, verdictOf, headOf, bodyOf}
 use Rattle.schedule.specs.Content.{eventOf, setupOf}
 use Rattle.schedule.specs.Kinds.{event-kind}
@@ -22,6 +22,10 @@ use Rattle.excludes.specs.Differ.{clash, differ, by, picked}
 pub head-at-not-short-before-unknown : Short ≢ headOf false (0x02 ∷ []) 0
 unfolding headOf verdictOf known lengthOf
 head-at-not-short-before-unknown e = clash (cc)
+
+pub head-at-not-unknown-always : (n k w : ℕ) → Unknown ≢ headOf false (0x00 ∷ n ∷ k ∷ w ∷ []) 0
+unfolding headOf verdictOf known lengthOf
+head-at-not-unknown-always n k w e = clash (cc)
 
 -- "setup, first and only there"
 pub head-at-not-a-second-setup : (n k w : ℕ) (rest : List ℕ) → Record 0x00 3 ≢ headOf true (0x00 ∷ n ∷ k ∷ w ∷ rest) 0

@@ -195,6 +195,17 @@ recovery-plan-not-done-early d done s e h l m =
     (λ a b c q. clash (cc (ap (λ (p : RecoveryPlan). p .next) q)))
     (λ a b c q. b (omega arith) (omega arith))
 
+-- and done then
+pub recovery-plan-not-on-after-the-last : (d done n : ℕ) (s : Seen) (e : Effect) → s .count ≤ 4 → done ≡ 2 * s .count + 1 → recoveryStep e (Then n) ≢ recoveryPlan d done s
+recovery-plan-not-on-after-the-last d done n s e l m =
+    plan-cases d done s (λ p. recoveryStep e (Then n) ≢ p)
+    (λ z f q. omega arith)
+    (λ a b c f q. omega (arith, b .1))
+    (λ a b c f q. omega (arith, b .1))
+    (λ a b c q. omega (arith, b .1))
+    (λ a b c q. omega arith)
+    (λ a b c q. clash (cc (ap (λ (p : RecoveryPlan). p .next) q)))
+
 -- nothing is freed while an entry is left, and no word is stored dirty
 pub recovery-plan-not-freed-first : (d done : ℕ) (s : Seen) (n : More) → done < 8 → done < 2 * s .count → recoveryStep (StoreStatus Free) n ≢ recoveryPlan d done s
 recovery-plan-not-freed-first d done s n h l =
