@@ -2,19 +2,23 @@
 use mathlib.Core.Path.{_≡_, refl, ap, _∙_}
 use mathlib.Core.Logic.{_≢_}
 use mathlib.Core.Bool.{Bool, true, false}
-use mathlib.Core.List.{List, []}
-use Prim.Native.Nat.{ℕ, zero, suc, _<_, _≤_}
+use mathlib.Core.List.{List, [], _++_}
+use Prim.Native.Nat.{ℕ, zero, suc, _+_, _^_, _<_, _≤_}
 use native.Mathlib.Omega.{arith}
 use lib.Dec.{leb}
+use lib.ListN.{replicate}
 use borrow.Author.Tests.{le-leb, lt-leb}
 use Rattle.word.specs.declared.Status.the-variants.{Free}
+use Rattle.word.specs.Word.{sortOf}
+use Rattle.word.specs.Status.{statusOf}
+use Rattle.little.specs.Number.{bytesOf, numberAt}
 use Rattle.steps.specs.declared.RecoveryPlace.the-variants.{At}
 use Rattle.events.specs.Refusal.{check, firstOf}
 use Rattle.image.specs.declared.Recovery.{Recovery}
 use Rattle.image.specs.Layout.{partOf, statusIn}
-use Rattle.image.specs.Check.{badSizes, badLength, badStatuses, badBodies, badWords, badPointers, contentChecks, imageRefusal}
+use Rattle.image.specs.Check.{someBelow, badEntry, badAt, badBody, hasWithin, badTarget, badPointerAt, badSizes, badLength, badStatuses, badBodies, badWords, badPointers, contentChecks, imageRefusal}
 use Rattle.image.specs.Recover.{runFrom, answerFor, Recovered, recovered, unlessRefused, recoverOf}
-use Rattle.image.specs.Count.{stepsOf, complete-exactly, told}
+use Rattle.image.specs.Count.{stepsIn, stepsFrom, stepsOf, complete-exactly, told}
 use Rattle.image.specs.Ends.{complete-frees}
 use Rattle.image.specs.Cuts.{call-runs}
 use Rattle.excludes.specs.Differ.{by, seen}
@@ -22,6 +26,14 @@ use Rattle.excludes.specs.Events.{past}
 
 abbrev answers : ℕ → ℕ → Recovery
 answers a s = record { answer = a; steps = s }
+
+-- the premises below are met: by an image of one word that points to one Succeeded, dirty, which takes 4 steps
+abbrev live : List ℕ
+live = bytesOf 8 (2 ^ 62) ++ bytesOf 8 (2 ^ 63 + 2) ++ bytesOf 8 1 ++ bytesOf 8 0 ++ bytesOf 8 0 ++ bytesOf 8 5 ++ replicate 72 0
+
+pub met : (imageRefusal 1 1 live ≡ 0) × (stepsOf 1 1 live ≡ 4)
+unfolding imageRefusal firstOf someBelow badBody badAt badEntry badPointerAt badTarget hasWithin numberAt sortOf statusOf stepsFrom stepsIn
+met = (refl, refl)
 
 -- where n and k are in their ranges, the answer is not 1
 module _ (n k : ℕ) (x y : List ℕ) (allowance steps : ℕ) (sizes : badSizes n k ≡ false) where

@@ -23,14 +23,16 @@ use Rattle.steps.specs.declared.RecoveryPlan.{RecoveryPlan}
 use Rattle.steps.specs.Plan.{isFree}
 use Rattle.steps.specs.Recovery.{recoveryStep}
 use Rattle.memory.specs.declared.Copy.the-variants.{Cached, Persisted}
+use Rattle.memory.specs.declared.Sizes.{Sizes}
 use Rattle.memory.specs.Block.{Block}
-use Rattle.memory.specs.Block.Field.{word}
+use Rattle.memory.specs.Block.Field.{word, size, recovery}
 use Rattle.memory.specs.Content.{wordIn, statusIn, countIn, backBody, workerIn, putWorker, recoveryIn}
-use Rattle.memory.specs.Fresh.{sizesIn}
+use Rattle.memory.specs.Fresh.{sizesIn, freshBlock}
 use Rattle.memory.specs.Fields.{Whole}
-use Rattle.memory.specs.Laws.{same-word}
-use Rattle.memory.specs.StoreLaws.{row-other, worker-stored}
+use Rattle.memory.specs.Laws.{same-word, same-sizes, same-recovery}
+use Rattle.memory.specs.StoreLaws.{row-whole, row-other, worker-stored}
 use Rattle.memory.specs.CopyLaws.{body-back-whole, body-back-other}
+use Rattle.memory.specs.FreshLaws.{fresh-whole, fresh-sizes, fresh-recovery}
 use Rattle.events.specs.declared.Event.{Event}
 use Rattle.events.specs.declared.Event.the-variants.{Step, Recover}
 use Rattle.events.specs.declared.Answer as A
@@ -43,6 +45,23 @@ use Rattle.machine.specs.Apply.{applyOf}
 use Rattle.machine.specs.Refused.{refused-unchanged}
 use Rattle.excludes.specs.Differ.{clash, by, seen}
 use Rattle.excludes.specs.Steps.{recovery-plan-not-done-early}
+
+-- the premises of the theorems on steps are met: by a fresh memory in which worker v runs an operation
+module _ (n k w v : ℕ) (o : Own) (e : ℕ) (p : Place) (inside : v < w) (row : v < 8) where
+  abbrev such : Block
+  such = putWorker (freshBlock n k w) v (Working o e p)
+
+  pub met : Whole such × (v < sizesIn such .w) × (recoveryIn such ≡ Outside) × (workerIn such v ≡ Working o e p)
+  met =
+      let m = freshBlock n k w in
+      let s : sizesIn such ≡ sizesIn m = same-sizes m such (λ j. row-other m v _ (size j) (λ i l q. clash (cc))) in
+      let q : sizesIn such .w ≡ w = ap (λ (z : Sizes). z .w) (s ∙ fresh-sizes n k w) in
+      let r : recoveryIn such ≡ recoveryIn m = same-recovery m such (λ j. row-other m v _ (recovery j) (λ i l q. clash (cc))) in (
+        row-whole m v _ (fresh-whole n k w),
+        omega (arith, q),
+        r ∙ fresh-recovery n k w,
+        worker-stored m v (Working o e p) (fresh-whole n k w) row,
+      )
 
 -- a step that none of the checks refuses
 module _ (m : Block) (w : ℕ) (o : Own) (e : ℕ) (p : Place) (below : w < sizesIn m .w) (outside : recoveryIn m ≡ Outside) (runs : workerIn m w ≡ Working o e p) where
