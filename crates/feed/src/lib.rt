@@ -9,6 +9,7 @@ ghost use Rattle.feed.specs.Feed.{Kept, kept, keptOf};
 pub fn read_on(buf: &mut [u8], have: usize) -> usize
     ensures { λ r. ⌜ (length (now (buf .exit)) ≡ length (now (buf .entry))) × ((r ≤ length (now (buf .exit))) × (take have (now (buf .exit)) ≡ take have (now (buf .entry)))) ⌝ }
     ensures { λ r. ⌜ (have ≤ length (now (buf .entry)) → have ≤ r) ⌝ }
+    ensures { λ r. ⌜ (length (now (buf .entry)) ≤ have → r ≡ length (now (buf .entry))) ⌝ }
 {
     if buf.len() <= have {
         return buf.len();

@@ -60,28 +60,27 @@ module _ (m x : Block) where
   pub same-recovery : ((j : ℕ) → get x (recovery j) ≡ get m (recovery j)) → recoveryIn x ≡ recoveryIn m
   same-recovery e = rw (e 0, e 1, e 2)
 
--- the value of a word depends on persisted fields alone
-module _ (m x : Block) where
-  pub same-found : (c : Copy) (d a : ℕ) → ((j : ℕ) → get x (body c d j) ≡ get m (body c d j)) → entryFor c x d a ≡ entryFor c m d a
-  unfolding entryFor
-  same-found c d a e =
-      let n = e 0 in
-      rw (same-entry m x c d 0 (λ j h l. e j), same-entry m x c d 1 (λ j h l. e j), same-entry m x c d 2 (λ j h l. e j), same-entry m x c d 3 (λ j h l. e j), n)
+-- the first entry for an address depends on the body's fields
+pub same-found : (m x : Block) (c : Copy) (d a : ℕ) → ((j : ℕ) → get x (body c d j) ≡ get m (body c d j)) → entryFor c x d a ≡ entryFor c m d a
+unfolding entryFor
+same-found m x c d a e =
+    let n = e 0 in
+    rw (same-entry m x c d 0 (λ j h l. e j), same-entry m x c d 1 (λ j h l. e j), same-entry m x c d 2 (λ j h l. e j), same-entry m x c d 3 (λ j h l. e j), n)
 
-  same-pointer : (d a : ℕ) → ((f : Copy → Field) → get x (f Persisted) ≡ get m (f Persisted)) → pointerValue x d a ≡ pointerValue m d a
-  same-pointer d a e =
-      rw (same-found Persisted d a (λ j. e (λ c. body c d j)))
-      (go (entryFor Persisted m d a))
+-- the value of a word depends on persisted words, statuses and bodies alone
+module _ (m x : Block) (words : (a : ℕ) → get x (word Persisted a) ≡ get m (word Persisted a)) (statuses : (d : ℕ) → get x (status Persisted d) ≡ get m (status Persisted d)) (bodies : (d j : ℕ) → get x (body Persisted d j) ≡ get m (body Persisted d j)) where
+  same-pointer : (d a : ℕ) → pointerValue x d a ≡ pointerValue m d a
+  same-pointer d a = rw (same-found m x Persisted d a (bodies d)) (go (entryFor Persisted m d a))
     where
       go : (o : Found) → foundValue x d o ≡ foundValue m d o
-      go (Here i) = rw (e (λ c. status c d), same-entry m x Persisted d i (λ j h l. e (λ c. body c d j)))
+      go (Here i) = rw (statuses d, same-entry m x Persisted d i (λ j h l. bodies d j))
       go Missing = refl
 
-  pub same-value : (a : ℕ) → ((f : Copy → Field) → get x (f Persisted) ≡ get m (f Persisted)) → valueOf x a ≡ valueOf m a
+  pub same-value : (a : ℕ) → valueOf x a ≡ valueOf m a
   unfolding valueOf
-  same-value a e = rw (e (λ c. word c a)) (go (wordIn Persisted m a))
+  same-value a = rw (words a) (go (wordIn Persisted m a))
     where
       go : (s : Sort) → sortValue x a s ≡ sortValue m a s
       go (Plain v dirty) = refl
-      go (Pointer d dirty) = same-pointer d a e
+      go (Pointer d dirty) = same-pointer d a
       go (Neither w) = refl

@@ -1,0 +1,13 @@
+pub mod Differ
+pub mod Word
+pub mod Little
+pub mod Codes
+pub mod Steps
+pub mod Memory
+pub mod Events
+pub mod Machine
+pub mod Schedule
+pub mod Feed
+pub mod Answers
+pub mod Play
+pub mod Image
