@@ -4,7 +4,7 @@ use mathlib.Core.Logic.{_≢_}
 use mathlib.Core.Bool.{false}
 use Prim.Native.Nat.{ℕ, suc, _+_, _*_, _/_, _<_, _≤_}
 use native.Mathlib.Omega.{arith}
-use borrow.Author.Tests.{lt-leb, le-ltb}
+use borrow.Author.Tests.{lt-leb}
 use Rattle.word.specs.declared.Outcome.{Outcome}
 use Rattle.word.specs.declared.Outcome.the-variants.{Succeeded, Failed}
 use Rattle.steps.specs.declared.Own.{Own}
@@ -40,7 +40,7 @@ use Rattle.events.specs.declared.Answer.the-variants.{Moved, Answered, Recovere
 use Rattle.events.specs.Left.{Left, left}
 use Rattle.events.specs.Refusal.{firstOf, refusalOf}
 use Rattle.machine.specs.Step.{seenIn, answerOf, planAt, workStep, stepOf}
-use Rattle.machine.specs.Recover.{visitAfter, placeAfter, recoveryAnswer, recoveryPlanAt, recoveryStepAt, recoverOf}
+use Rattle.machine.specs.Recover.{placeAfter, recoveryAnswer, recoveryPlanAt, recoveryStepAt, recoverOf}
 use Rattle.machine.specs.Apply.{applyOf}
 use Rattle.machine.specs.Refused.{refused-unchanged}
 use Rattle.excludes.specs.Differ.{clash, by, seen}
@@ -129,11 +129,3 @@ module _ (m x : Block) (d s : ℕ) (inside : recoveryIn m ≡ At d s) (live : is
   pub apply-not-recovered-early : left x Recovered ≢ applyOf m Recover
   unfolding recoveryStepAt
   apply-not-recovered-early = rw a-step (by (λ (y : Left). y .answer) (not-done (recoveryPlanAt m d s) refl))
-
--- after the last descriptor there is none; after any, recovery does not stay there
-pub place-after-not-past-the-last : (d : ℕ) → At (suc d) 0 ≢ placeAfter (suc d) d Done
-unfolding visitAfter
-place-after-not-past-the-last d = rw (le-ltb (suc d) (suc d) (omega arith)) (λ e. clash (cc))
-
-pub place-after-not-over-early : (k d s : ℕ) → Outside ≢ placeAfter k d (Then s)
-place-after-not-over-early k d s e = clash (cc)

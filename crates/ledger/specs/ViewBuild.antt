@@ -36,9 +36,6 @@ module _ (m : Block) (d i : ℕ) (e : Entry) where
   pub stored-other : (j : ℕ) → j ≢ i → entries (putEntry m d i e) d j ≡ entries m d j
   stored-other j q = same-entry m (putEntry m d i e) Cached d j (λ t a b. entry-other m d i e (body Cached d t) (λ u x y z. let w : u ≡ t = cc in q (omega arith)))
 
-  stored-count : countIn Cached (putEntry m d i e) d ≡ countIn Cached m d
-  stored-count = entry-other m d i e (body Cached d 0) (λ u x y z. let w : u ≡ 0 = cc in omega arith)
-
 -- what `inserted` makes of the entries 0 to i: e stands at p, those from p on have moved up
 pub record Shifted (m new : Block) (d i : ℕ) (e : Entry) : Type 0 where
   pub p : ℕ

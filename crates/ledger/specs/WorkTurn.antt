@@ -34,7 +34,7 @@ use Rattle.ledger.specs.Still.{Bodies, Begins}
 use Rattle.ledger.specs.Workers.{Owns, Concerns, OnJob, OwnerKnows, OwnFits, Home, WorkKnows, WorkerKnows}
 use Rattle.ledger.specs.Invariant.{AsSent, Invariant}
 use Rattle.ledger.specs.Machine.{Acts}
-use Rattle.ledger.specs.Keep.{Starts, kept, kept-bodies, others, keep-worker}
+use Rattle.ledger.specs.Keep.{Starts, kept-bodies, others, keep-worker}
 
 -- what is known at a shared place or at StoreFree is what the owner knows there
 pub owner-knows : (n k : ℕ) (M : Cells) (In : ℕ → Bool) (D : ℕ → Type 0) (Sent : ℕ → Body) (d : ℕ) (p : Place) → OnJob n k M In D Sent d p → OwnerKnows n k M In D Sent d p
@@ -125,9 +125,6 @@ module _ (n k : ℕ) {s : State} {L : ℕ → ℕ} {In : ℕ → Bool} {Differed
             (λ d z. rw (upd-same (s .worker) w x) (starts d z)) alone (rw (upd-same (s .worker) w x) knows),
         wrote M In Differed r,
       )
-
-      pub agrees⁺ : Agrees new (L⁺ new) (In⁺ new) Differed′
-      agrees⁺ = kept n k I r bg fit (L⁺ new) (In⁺ new) Differed′ Sent′ gl gi gd gs
 
       pub bodies⁺ : Bodies (AsSent k Sent′) new
       bodies⁺ = kept-bodies n k I r bg fit (L⁺ new) (In⁺ new) Differed′ Sent′ gl gi gd gs

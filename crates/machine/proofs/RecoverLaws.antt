@@ -37,9 +37,6 @@ module _ (d k : ℕ) where
 pub place-by : (k d : ℕ) (n q : More) (r : RecoveryPlace) → n ≡ q → r ≡ placeAfter k d q → r ≡ placeAfter k d n
 place-by k d n q r e h = rw e h
 
-pub recovery-answer-by : (p q : RecoveryPlace) (r : Answer) → p ≡ q → r ≡ recoveryAnswer q → r ≡ recoveryAnswer p
-recovery-answer-by p q r e h = rw e h
-
 pub recovery-law : (m x y : Block) (k d s : ℕ) (e : Seen) (q : RecoveryPlan) (p : RecoveryPlace) (r : Answer) → e ≡ seenIn Persisted m d (s / 2) → q ≡ recoveryPlan d s e
     → x ≡ performed m d (q .effect) → p ≡ placeAfter k d (q .next) → y ≡ putRecovery x p → r ≡ recoveryAnswer p → left y r ≡ recoveryStepAt m k d s
 unfolding recoveryStepAt recoveryPlanAt

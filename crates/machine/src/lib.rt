@@ -4,4 +4,3 @@ mod recovery;
 mod work;
 
 pub use dispatch::apply;
-pub use recovery::place_after;

@@ -37,7 +37,7 @@ fn visit_after(d: u64, k: u64) -> RecoveryPlace
 }
 
 // Where recovery stands after a step at d, of k descriptors.
-pub fn place_after(k: u64, d: u64, n: More) -> RecoveryPlace
+fn place_after(k: u64, d: u64, n: More) -> RecoveryPlace
     ensures { λ r. ⌜ r ≡ R.placeAfter k d n ⌝ }
 {
     match n {
