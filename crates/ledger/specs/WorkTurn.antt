@@ -23,7 +23,6 @@ use Rattle.ledger.specs.Cells.{Body, Cells, State, withCells, withWorker
 use Rattle.ledger.specs.Fits.{CellsFit}
 use Rattle.ledger.specs.PlanFits.{NextFits}
 use Rattle.ledger.specs.Meaning.{putAll}
-use Rattle.ledger.specs.Agree.{Agrees}
 use Rattle.ledger.specs.StatusRules.{fires}
 use Rattle.ledger.specs.Rule.{Rule, OwnersOnly}
 use Rattle.ledger.specs.Rule

@@ -9,4 +9,3 @@ use Rattle.machine.specs.Apply.{applyOf}
 
 pub apply : (m : Block) (e : Event) (x y : Block) (r s : Answer) → left x r ≡ applyOf m e → left y s ≡ applyOf m e → (x ≡ y) × (r ≡ s)
 apply m e x y r s = both
-
