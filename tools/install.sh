@@ -5,8 +5,12 @@ case $prefix in
 /*) ;;
 *) prefix=$PWD/$prefix ;;
 esac
+goal=install
+. tests/need-kit.sh
 archive=target/staticlib/libimage.a
-[ -f $archive ] || rt staticlib image >build/staticlib.log 2>&1 || {
+mkdir -p build
+# also where there is an archive: it may be of an earlier state of the sources
+rt staticlib image >build/staticlib.log 2>&1 || {
     tail -n 5 build/staticlib.log
     echo "make install: the archive could not be proved and built; see build/staticlib.log" >&2
     exit 1

@@ -5,7 +5,7 @@ command -v gcc >/dev/null 2>&1 || {
     exit 0
 }
 mkdir -p build
-[ -f target/staticlib/libimage.a ] || rt staticlib image >build/staticlib.log 2>&1 || {
+rt staticlib image >build/staticlib.log 2>&1 || {
     tail -n 5 build/staticlib.log
     echo "images: rt staticlib image failed; see build/staticlib.log"
     exit 1

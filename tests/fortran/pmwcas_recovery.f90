@@ -1,13 +1,21 @@
 ! Recovery of a PMwCAS memory image, from Fortran: the C header's names with iso_c_binding.
 module pmwcas_recovery
-  use, intrinsic :: iso_c_binding, only: c_int64_t, c_int8_t, c_size_t
+  use, intrinsic :: iso_c_binding, only: c_int64_t, c_size_t
   implicit none
   private
   public :: recovery, pmwcas_recover
   public :: pmwcas_complete, pmwcas_incomplete
+  public :: pmwcas_bad_sizes, pmwcas_bad_length, pmwcas_bad_status, pmwcas_bad_body, pmwcas_bad_word, pmwcas_bad_pointer
 
   integer(c_int64_t), parameter :: pmwcas_complete = 0_c_int64_t
   integer(c_int64_t), parameter :: pmwcas_incomplete = 256_c_int64_t
+  ! refusals: the image is untouched
+  integer(c_int64_t), parameter :: pmwcas_bad_sizes = 1_c_int64_t
+  integer(c_int64_t), parameter :: pmwcas_bad_length = 20_c_int64_t
+  integer(c_int64_t), parameter :: pmwcas_bad_status = 21_c_int64_t
+  integer(c_int64_t), parameter :: pmwcas_bad_body = 22_c_int64_t
+  integer(c_int64_t), parameter :: pmwcas_bad_word = 23_c_int64_t
+  integer(c_int64_t), parameter :: pmwcas_bad_pointer = 24_c_int64_t
 
   ! the answer (0 complete, 256 incomplete, else the refusal's number) and the steps taken
   type, bind(c) :: recovery

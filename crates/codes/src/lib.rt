@@ -125,7 +125,7 @@ fn place_noted(p: Place) -> u64
     }
 }
 
-// The place of a worker that runs something.
+// The place of a worker that runs an operation.
 pub fn place_in(r: Row) -> Place
     ensures { λ p. ⌜ p ≡ placeIn r ⌝ }
 {
@@ -193,7 +193,7 @@ fn row_at(tag: u64, own: u64, job: u64, p: Place) -> Row
     }
 }
 
-// The row of a worker that runs something.
+// The row of a worker that runs an operation.
 pub fn row_working(o: Own, job: u64, p: Place) -> Row
     ensures { λ r. ⌜ r ≡ Rattle.codes.specs.Row.rowWorking o job p ⌝ }
 {

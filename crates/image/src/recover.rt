@@ -1,4 +1,4 @@
-// Recovery of an image that the checks have passed, descriptor by descriptor, while the allowance lasts.
+// Recovery of an image that has passed the checks, descriptor by descriptor, while the allowance lasts.
 use crate::Recovery;
 use crate::claim::points_to;
 use little::read_u64;

@@ -57,6 +57,7 @@ pub mod RuntimeHolds
 pub mod RecoverySteps
 pub mod StepsLeft
 pub mod RecoveryBound
+pub mod Beyond
 pub mod OverBytes
 pub mod Lines
 pub mod Out

@@ -106,7 +106,7 @@ module _ (n k w : ℕ) (es : List Event) where
     -- an operation that answered S has its instant between submission and answer, with the body that was submitted
     pub success : (s v d i : ℕ) → Operation s v d i → Happens i (Step v) (Answered Succeeded)
         → (t : ℕ) × (s < t) × (t < i) × (enters t d ≡ true) × AsSubmitted s t d
-    -- one that answered F has none; and at some moment from its submission to its answer the ledger differed from one of its expected values
+    -- one that answered F has none (nor later: an instant belongs to an operation that runs then, `owned`); and at some moment from its submission to its answer the ledger differed from one of its expected values
     pub failure : (s v d i : ℕ) → Operation s v d i → Happens i (Step v) (Answered Failed) → (t : ℕ) → s ≤ t → t ≤ i → enters t d ≡ false
     pub differed : (s v d i : ℕ) → Operation s v d i → Happens i (Step v) (Answered Failed)
         → (t : ℕ) × (s < t) × (t ≤ i) × (e : Entry) × Has s d e × (ledger t (e .address) ≢ e .expected)

@@ -76,7 +76,7 @@ pub fn put_worker(m: &mut Memory, w: u64, x: Worker)
     }
 }
 
-// The same for a worker that runs something: a step that goes on, which most do, is stored without a look at what else a worker can be.
+// The same for a worker that runs an operation: a step that goes on, which most do, is stored without a look at what else a worker can be.
 pub fn put_working(m: &mut Memory, w: u64, o: Own, job: u64, p: Place)
     ensures { λ _. ⌜ now (m .exit) ≡ putWorker (now (m .entry)) w (Worker.Working o job p) ⌝ }
 {
