@@ -82,16 +82,3 @@ pub last-length : (m : Block) → length (lastLine m) ≤ 1346
 unfolding lastLine
 last-length m =
     simp length-append (omega (arith, spaced-length (valuesBelow m (wordsShown m)), values-length m (wordsShown m)))
-
--- three lines of document 01's run (a): `1 D 0`, `12 OK` and `16 Z`
-pub line-1 : lineOf 1 (Opened 0) ≡ 49 ∷ 32 ∷ 68 ∷ 32 ∷ 48 ∷ 10 ∷ []
-unfolding lineOf decimalOf digitsOf
-line-1 = refl
-
-pub line-12 : lineOf 12 Ok ≡ 49 ∷ 50 ∷ 32 ∷ 79 ∷ 75 ∷ 10 ∷ []
-unfolding lineOf decimalOf digitsOf
-line-12 = refl
-
-pub line-16 : lineOf 16 Recovered ≡ 49 ∷ 54 ∷ 32 ∷ 90 ∷ 10 ∷ []
-unfolding lineOf decimalOf digitsOf
-line-16 = refl

@@ -8,7 +8,6 @@ use native.Mathlib.Omega.{arith}
 use native.Mathlib.Decide.{ℕ-discrete, decLt}
 use borrow.Author.Tests.{le-leb}
 use lib.ListN.{length, getD}
-
 use Rattle.steps.specs.declared.Worker.{Worker}
 use Rattle.steps.specs.declared.Worker.the-variants.{Idle, Building, Working, Reading, ReadClear}
 use Rattle.steps.specs.declared.RecoveryPlace.{RecoveryPlace}
@@ -130,7 +129,7 @@ module _ (n k w : ℕ) (es : List Event) where
   idle-beyond zero v l = idle-first v
   idle-beyond (suc i) v l = elim (decLt i (length es)) [
     | yes z ↦
-      ap (λ (x : Block). workerIn x v) (memory-next n k w es i z)
-      ∙ idle-kept (memoryAt n k w es i) (memory-whole n k w es i) v (subst (λ (s : Sizes). s .w ≤ v) (sym (memory-sizes n k w es i)) l) (idle-beyond i v l) (getD es i Crash)
+        ap (λ (x : Block). workerIn x v) (memory-next n k w es i z)
+        ∙ idle-kept (memoryAt n k w es i) (memory-whole n k w es i) v (subst (λ (s : Sizes). s .w ≤ v) (sym (memory-sizes n k w es i)) l) (idle-beyond i v l) (getD es i Crash)
     | no z ↦ ap (λ (x : Block). workerIn x v) (memory-past n k w es i (omega arith)) ∙ idle-beyond i v l
   ]

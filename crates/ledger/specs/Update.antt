@@ -84,10 +84,6 @@ module _ {A : Type 0} where
   in-frame P Persisted old new Cached b = old Cached b
   in-frame P Persisted old new Persisted b = upd-frame (P Persisted) (old Persisted) new b
 
-  pub in-same : (f : InBoth A) (c : Copy) (a : ℕ) (x : A) → updIn f c a x c a ≡ x
-  in-same f Cached a x = upd-same (f Cached) a x
-  in-same f Persisted a x = upd-same (f Persisted) a x
-
 -- equal in both copies and everywhere
 pub both-ext : {A : Type 0} (f h : InBoth A) → ((c : Copy) (a : ℕ) → f c a ≡ h c a) → f ≡ h
 both-ext f h e = fun-ext (λ c. fun-ext (λ a. e c a))
