@@ -112,7 +112,7 @@ module _ (m : Block) (w d : ℕ) (below : w < sizesIn m .w) (outside : recoveryI
 pub apply-not-changed-where-refused : (m x : Block) (e : Event) (r : ℕ) → x ≢ m → left x (Refused r) ≢ applyOf m e
 apply-not-changed-where-refused m x e r n f = n (ap (λ (y : Left). y .memory) f ∙ refused-unchanged m e r (sym (ap (λ (y : Left). y .answer) f)))
 
--- an invented number of steps: not recovered before the 2c+2 steps of the last live descriptor are done
+-- an invented number of steps: no Z while the live descriptor at which recovery stands has some of its 2c+2 left
 module _ (m x : Block) (d s : ℕ) (inside : recoveryIn m ≡ At d s) (live : isFree (statusIn Persisted m d) ≡ false) (few : countIn Persisted m d ≤ 4) (early : s < 2 * countIn Persisted m d + 1) where
   a-step : applyOf m Recover ≡ recoveryStepAt m (sizesIn m .k) d s
   unfolding applyOf refusalOf firstOf
