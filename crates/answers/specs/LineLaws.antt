@@ -14,7 +14,7 @@ use Rattle.memory.specs.Value.{valueOf}
 use Rattle.events.specs.declared.Answer.{Answer}
 use Rattle.events.specs.declared.Answer.the-variants.{Ok, Opened, Moved, Helping, Waits, Answered, Shows, Recovering, Recovered, Refused}
 use Rattle.events.specs.Event.{lettersOf, figureOf}
-use Rattle.answers.specs.Decimal.{digitsOf, decimalOf}
+use Rattle.answers.specs.Decimal.{decimalOf}
 use Rattle.answers.specs.DecimalLaws.{decimal-length}
 use Rattle.answers.specs.Line.{spaced, lineOf, valuesBelow, wordsShown, lastLine}
 

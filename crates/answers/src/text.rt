@@ -67,22 +67,18 @@ fn put_short(out: &mut [u8], at: usize, n: u64) -> usize
     put_four(out, at, n)
 }
 
-// A number in decimal, four digits at a time; up to eight digits, as most numbers of records have, without a further call of itself.
+// A number in decimal, four digits at a time.
 pub fn put_decimal(out: &mut [u8], at: usize, n: u64) -> usize
     ensures { λ r. ⌜ filled (now (out .exit)) r ≡ putOf (now (out .entry)) at (decimalOf n) ⌝ }
 {
     if n < 10000 {
         return put_short(out, at, n);
     }
-    if n < 100000000 {
-        let b = put_short(out, at, n / 10000);
-        return put_four(out, b, n);
-    }
     let b = put_decimal(out, at, n / 10000);
     put_four(out, b, n)
 }
 
-// The same for the number of a record, which mostly has at most eight digits: called from one place, it is put there by the compiler.
+// The same for the number of a record: up to eight digits without recursion, and called from one place, so that the compiler puts it there.
 pub(crate) fn put_count(out: &mut [u8], at: usize, n: u64) -> usize
     ensures { λ r. ⌜ filled (now (out .exit)) r ≡ putOf (now (out .entry)) at (decimalOf n) ⌝ }
 {

@@ -1,13 +1,12 @@
 -- Opening, adding and removing: one law for each answer.
-use mathlib.Core.Path.{_≡_, refl, sym, ap, _∙_}
-use mathlib.Core.Bool.{Bool, true, false, cond, not, _&&_, _||_}
+use mathlib.Core.Path.{_≡_, sym, ap, _∙_}
+use mathlib.Core.Bool.{Bool, true, false}
 use Prim.Native.Nat.{ℕ, zero, suc, _+_, _-_, _<_, _≤_}
 use native.Mathlib.Omega.{arith}
-use lib.Dec.{eqb, ltb}
+use lib.Dec.{ltb}
 use borrow.Author.Tests.{lt-ltb, le-ltb}
 use Rattle.word.specs.declared.Status.{Status}
 use Rattle.steps.specs.declared.Own.{Own}
-use Rattle.steps.specs.declared.Own.the-variants.{Operation}
 use Rattle.steps.specs.declared.Worker.{Worker}
 use Rattle.steps.specs.declared.Worker.the-variants.{Building}
 use Rattle.steps.specs.declared.Entry.{Entry}
@@ -17,10 +16,9 @@ use Rattle.memory.specs.declared.Found.{Found}
 use Rattle.memory.specs.declared.Found.the-variants.{Here, Missing}
 use Rattle.memory.specs.Block.{Block}
 use Rattle.memory.specs.Content.{statusIn, countIn, putCount, entryIn, putEntry, clearBody, workerIn, putWorker}
-use Rattle.events.specs.declared.Answer.{Answer}
 use Rattle.events.specs.declared.Answer.the-variants.{Opened, Refused}
-use Rattle.events.specs.Left.{Left, left}
-use Rattle.events.specs.Build.{ownerOf, owns, ownedBelow, qualifies, foundOr, lowestBelow, opened, inserted, added, noEntry, movedDown, removedEntry, removedAt}
+use Rattle.events.specs.Left.{left}
+use Rattle.events.specs.Build.{ownerOf, owns, ownedBelow, qualifies, lowestBelow, opened, inserted, added, noEntry, movedDown, removedEntry, removedAt}
 
 pub owner-by : (o q : Own) (d : ℕ) (r : Bool) → o ≡ q → r ≡ ownerOf q d → r ≡ ownerOf o d
 owner-by o q d r e h = rw e h

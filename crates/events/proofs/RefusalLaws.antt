@@ -1,8 +1,8 @@
 -- The refusals: one law for each answer.
 use mathlib.Core.Path.{_≡_, refl, _∙_}
 use mathlib.Core.Bool.{Bool, true, false, not, _||_}
-use mathlib.Core.List.{List, [], _∷_}
-use Prim.Native.Nat.{ℕ, _^_}
+use mathlib.Core.List.{[], _∷_}
+use Prim.Native.Nat.{ℕ}
 use lib.Dec.{eqb, leb}
 use borrow.Author.Tests.{eq-eqb, ne-eqb}
 use Rattle.steps.specs.declared.Entry.{Entry}
@@ -16,7 +16,7 @@ use Rattle.memory.specs.Content.{countIn, recoveryIn}
 use Rattle.memory.specs.Fresh.{sizesIn}
 use Rattle.memory.specs.Value.{entryFor}
 use Rattle.events.specs.Build.{buildOf}
-use Rattle.events.specs.Refusal.{Check, firstOf, orElse, isRecovering, isIdle, isBuilding, isMissing, noWorker, inRecovery, outsideRecovery, ownsSomething, notBuilding, noneQualifies, noAddress, tooLarge, runsNothing, noDescriptor, alreadyAdded, openChecks, addChecks, removeChecks, submitChecks, discardChecks, readChecks, stepChecks}
+use Rattle.events.specs.Refusal.{firstOf, orElse, isRecovering, isIdle, isBuilding, isMissing, noWorker, inRecovery, outsideRecovery, ownsSomething, notBuilding, noAddress, tooLarge, noDescriptor, alreadyAdded, openChecks, addChecks, removeChecks, submitChecks, discardChecks, readChecks, stepChecks}
 use Rattle.events.specs.First.{first-then}
 
 module _ (r n : ℕ) where

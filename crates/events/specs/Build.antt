@@ -1,5 +1,5 @@
 -- Opening, adding, removing, submitting, discarding, beginning a read: records 01 to 06 (the paper's section 2.2 and 5.1).
-use mathlib.Core.Bool.{Bool, true, false, cond, not, _&&_, _||_}
+use mathlib.Core.Bool.{Bool, false, cond, not, _&&_, _||_}
 use Prim.Native.Nat.{ℕ, zero, suc, _+_, _-_}
 use lib.Dec.{eqb, ltb}
 use Rattle.steps.specs.declared.Own.{Own}
@@ -14,7 +14,7 @@ use Rattle.memory.specs.declared.Found.{Found}
 use Rattle.memory.specs.declared.Found.the-variants.{Here, Missing}
 use Rattle.memory.specs.Block.{Block}
 use Rattle.memory.specs.Content.{statusIn, countIn, putCount, entryIn, putEntry, clearBody, workerIn, putWorker}
-use Rattle.events.specs.declared.Answer.the-variants.{Ok, Opened, Refused}
+use Rattle.events.specs.declared.Answer.the-variants.{Opened, Refused}
 use Rattle.events.specs.Left.{Left, left}
 
 -- the worker owns descriptor d

@@ -1,6 +1,6 @@
 -- The first refusal of a table that holds, found one after the other.
-use mathlib.Core.Path.{_≡_, refl, sym, _∙_}
-use mathlib.Core.Bool.{Bool, true, false, cond, not, _&&_}
+use mathlib.Core.Path.{_≡_, refl}
+use mathlib.Core.Bool.{Bool, true, false, cond, not, _&&_, and-eq-true-iff}
 use mathlib.Core.List.{List, [], _∷_, _++_}
 use Prim.Native.Nat.{ℕ}
 use lib.Dec.{eqb}
@@ -12,13 +12,15 @@ abbrev pub numbered : List Check → Bool
 numbered [] = true
 numbered (c ∷ cs) = not (eqb (c .number) 0) && numbered cs
 
-and-first : (s t : Bool) → (s && t) ≡ true → s ≡ true
-and-first true t e = refl
-and-first false t e = e
+-- what holds of both
+pub both : (s t : Bool) → (s && t) ≡ true → (s ≡ true) × (t ≡ true)
+both s t = and-eq-true-iff s t .0
 
-and-rest : (s t : Bool) → (s && t) ≡ true → t ≡ true
-and-rest true t e = e
-and-rest false t e = let z : _≡_ {A = Bool} false true = e in cc
+pub and-first : (s t : Bool) → (s && t) ≡ true → s ≡ true
+and-first s t e = both s t e .0
+
+pub and-second : (s t : Bool) → (s && t) ≡ true → t ≡ true
+and-second s t e = both s t e .1
 
 -- one more check at the end of a table
 pub first-then : (cs : List Check) (n : ℕ) (t : Bool) → numbered cs ≡ true → orElse (firstOf cs) n t ≡ firstOf (cs ++ check n t ∷ [])
@@ -28,7 +30,7 @@ first-then (c ∷ cs) n t e =
     go
     (c .holds)
     (not-true (eqb (c .number) 0) (and-first (not (eqb (c .number) 0)) (numbered cs) e))
-    (first-then cs n t (and-rest (not (eqb (c .number) 0)) (numbered cs) e))
+    (first-then cs n t (and-second (not (eqb (c .number) 0)) (numbered cs) e))
   where
     go : (h : Bool) → eqb (c .number) 0 ≡ false → orElse (firstOf cs) n t ≡ firstOf (cs ++ check n t ∷ [])
         → orElse (cond h (c .number) (firstOf cs)) n t ≡ cond h (c .number) (firstOf (cs ++ check n t ∷ []))
@@ -68,7 +70,7 @@ none-holds (c ∷ cs) e f =
     (c .holds)
     refl
     (eqb-false (c .number) 0 (not-true (eqb (c .number) 0) (and-first (not (eqb (c .number) 0)) (numbered cs) e)))
-    (none-holds cs (and-rest (not (eqb (c .number) 0)) (numbered cs) e))
+    (none-holds cs (and-second (not (eqb (c .number) 0)) (numbered cs) e))
     f
   where
     go : (t : Bool) → c .holds ≡ t → (c .number ≡ 0 → ⊥) → (firstOf cs ≡ 0 → NoneHolds cs) → cond t (c .number) (firstOf cs) ≡ 0
@@ -79,4 +81,4 @@ none-holds (c ∷ cs) e f =
 -- a number that a table gives is not 0
 pub gives-some : (cs : List Check) (r : ℕ) → numbered cs ≡ true → Gives cs r → r ≡ 0 → ⊥
 gives-some (c ∷ cs) r e (here h) = eqb-false (c .number) 0 (not-true (eqb (c .number) 0) (and-first (not (eqb (c .number) 0)) (numbered cs) e))
-gives-some (c ∷ cs) r e (later h g) = gives-some cs r (and-rest (not (eqb (c .number) 0)) (numbered cs) e) g
+gives-some (c ∷ cs) r e (later h g) = gives-some cs r (and-second (not (eqb (c .number) 0)) (numbered cs) e) g

@@ -13,7 +13,7 @@ use Rattle.word.specs.declared.Outcome.the-variants.{Succeeded, Failed}
 use Rattle.word.specs.declared.Status.{Status}
 use Rattle.word.specs.declared.Status.the-variants.{Free, Undecided, Decided, Bad}
 use Rattle.steps.specs.declared.Place.{Place}
-use Rattle.steps.specs.declared.Place.the-variants.{BackBody, Install, Decide, Swap, SwapBack, StoreFree, BackFree}
+use Rattle.steps.specs.declared.Place.the-variants.{Install, Decide, Swap, StoreFree, BackFree}
 use Rattle.steps.specs.declared.Seen.{Seen}
 use Rattle.steps.specs.declared.Effect.{Effect}
 use Rattle.steps.specs.declared.Effect.the-variants.{Nothing, StoreWord, StoreStatus, BackStatus}
@@ -26,7 +26,6 @@ use Rattle.steps.specs.declared.ReadNext.{ReadNext}
 use Rattle.steps.specs.declared.ReadNext.the-variants.{Value}
 use Rattle.steps.specs.declared.ReadPlan.{ReadPlan}
 use Rattle.steps.specs.declared.RecoveryPlan.{RecoveryPlan}
-use Rattle.steps.specs.Place.{stepNumber}
 use Rattle.steps.specs.Plan.{planned, pointsTo, isDirtyPointer, isDirtyPlain, isFree, readPlan, readClearPlan}
 use Rattle.steps.specs.Operation.{moreOf, installWord, installBy, install, installClear, persistClear, decide, settle, settleClear, swap, swapped, swapClear, storeFree}
 use Rattle.steps.specs.Recovery.{recoveryStep, recoveryPlan}
@@ -38,13 +37,6 @@ by-effect = by (λ (p : Plan). p .effect)
 
 by-next : {p q : Plan} → p .next ≢ q .next → p ≢ q
 by-next = by (λ (p : Plan). p .next)
-
--- document 01 counts its steps from 1; several places belong to one of them
-pub step-number-not-from-0 : 0 ≢ stepNumber BackBody
-step-number-not-from-0 e = omega arith
-
-pub step-number-not-one-for-each-place : (i : ℕ) → 7 ≢ stepNumber (SwapBack i)
-step-number-not-one-for-each-place i e = omega arith
 
 pub planned-not-without-its-effect : (e : Effect) (n : Next) → Nothing ≢ e → planned Nothing n ≢ planned e n
 planned-not-without-its-effect e n = by-effect

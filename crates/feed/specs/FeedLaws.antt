@@ -1,5 +1,5 @@
 -- No byte is lost: what is kept is what stood there, byte by byte, though the two places may overlap.
-use mathlib.Core.Path.{_≡_, refl, sym, ap, _∙_}
+use mathlib.Core.Path.{_≡_, refl, _∙_}
 use mathlib.Core.Bool.{Bool, true, false}
 use mathlib.Core.List.{List}
 use Prim.Native.Nat.{ℕ, zero, suc, _+_, _-_, _<_, _≤_}
@@ -7,8 +7,8 @@ use native.Mathlib.Omega.{arith}
 use lib.Dec.{eqb}
 use lib.ListN.{length, getD, set, length-set}
 use lib.Seq.{getD-set-same, getD-set-other}
-use borrow.Author.Tests.{eqb-true, eqb-false, le-ltb, lt-leb}
-use Rattle.feed.specs.Feed.{kept, moved, keptOf}
+use borrow.Author.Tests.{eqb-true, eqb-false}
+use Rattle.feed.specs.Feed.{moved}
 
 module _ (s : List ℕ) (from : ℕ) where
   pub moved-length : (n : ℕ) → length (moved s from n) ≡ length s

@@ -20,7 +20,7 @@ use Rattle.image.specs.Layout.{wordOf, descriptorPlace, partOf, statusIn
 use Rattle.image.specs.Check.{someBelow, badBody, isNeither, hasWithin, hasAddress, badTarget, badPointer, badPointerAt, badBodies, badWords, badPointers}
 use Rattle.image.specs.CheckLaws.{none-below}
 use Rattle.image.specs.Good.{live-count, entry-good, entry-small}
-use Rattle.image.specs.Claims.{claimsIn, claims, claimed, MarkedBy, Marked, badMarked, badMarkeds}
+use Rattle.image.specs.Claims.{claimsIn, claims, claimed, MarkedBy, Marked, badMarked, badMarkedWords}
 
 -- a number that points to d
 no-mark : (w n : ℕ) (c : Bool) → n < 2 ^ 63 → w ≡ marked c n → w % 2 ^ 63 ≡ n
@@ -225,7 +225,7 @@ module _ (n k : ℕ) (x : List ℕ) (a : ℕ) where
   unfolding claims badPointerAt
   unclaimed = by-sort (wordOf x a)
 
-pub marked-words : (n k : ℕ) (x : List ℕ) (m : List Bool) → n ≤ 64 → Marked n k x m → badMarkeds n x m ≡ (badWords n x || badPointers n k x)
+pub marked-words : (n k : ℕ) (x : List ℕ) (m : List Bool) → n ≤ 64 → Marked n k x m → badMarkedWords n x m ≡ (badWords n x || badPointers n k x)
 marked-words n k x m l h =
     below-same (λ a. badMarked (getD m a false) (wordOf x a)) (λ a. isNeither (wordOf x a) || badPointerAt n k x a) n
     (λ a j. rw (h .marks a (omega arith)) (unclaimed n k x a))

@@ -14,7 +14,7 @@ use Rattle.events.specs.Refusal.{firstOf}
 use Rattle.image.specs.Layout.{wordOf, partOf}
 use Rattle.image.specs.Check.{badSizes, badStatus, badBody, isNeither, badStatuses, badBodies, badWords, badPointers, contentRefusal, imageRefusal}
 use Rattle.image.specs.CheckLaws.{or-left, or-right, below-found, below-next, sizes-small}
-use Rattle.image.specs.Claims.{Marked, badMarked, badMarkeds, badDescriptors}
+use Rattle.image.specs.Claims.{Marked, badMarked, badMarkedWords, badDescriptors}
 use Rattle.image.proofs.ClaimLaws.{given, given-part, below-either, marked-words}
 
 module _ (n k : ℕ) where
@@ -77,14 +77,14 @@ module _ (x : List ℕ) (a u : ℕ) (s : Sort) (r : Bool) (f : u ≡ numberAt x 
     words-next q = below-next (λ b. isNeither (wordOf x b)) a r e neither-here q
 
   -- 23 or 24
-  module _ (m : List Bool) (e : badMarkeds a x m ≡ false) (h : r ≡ badMarked (getD m a false) s) where
+  module _ (m : List Bool) (e : badMarkedWords a x m ≡ false) (h : r ≡ badMarked (getD m a false) s) where
     marked-here : r ≡ badMarked (getD m a false) (wordOf x a)
     marked-here = h ∙ rw (g, f)
 
-    pub marked-found : (n : ℕ) → a < n → r ≡ true → true ≡ badMarkeds n x m
+    pub marked-found : (n : ℕ) → a < n → r ≡ true → true ≡ badMarkedWords n x m
     marked-found n l q = below-found (λ b. badMarked (getD m b false) (wordOf x b)) a n r e l marked-here q
 
-    pub marked-next : r ≡ false → badMarkeds (a + 1) x m ≡ false
+    pub marked-next : r ≡ false → badMarkedWords (a + 1) x m ≡ false
     marked-next q = below-next (λ b. badMarked (getD m b false) (wordOf x b)) a r e marked-here q
 
 -- the first that holds
@@ -118,7 +118,7 @@ module _ (n k : ℕ) (x : List ℕ) (o : length x ≡ 8 * n + 112 * k) (t : Bool
     pub no-body : badBodies n k x ≡ false
     no-body = or-right (badStatuses n k x) (badBodies n k x) none
 
-    module _ (l : n ≤ 64) (m : List Bool) (p : Marked n k x m) (u : Bool) (g : u ≡ badMarkeds n x m) where
+    module _ (l : n ≤ 64) (m : List Bool) (p : Marked n k x m) (u : Bool) (g : u ≡ badMarkedWords n x m) where
       words : u ≡ (badWords n x || badPointers n k x)
       words = g ∙ marked-words n k x m l p
 

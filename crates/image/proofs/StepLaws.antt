@@ -22,21 +22,21 @@ use Rattle.image.specs.declared.recover.Visit.the-variants.{Over}
 use Rattle.image.specs.Layout.{wordPlace, wordOf, withWord, descriptorPlace, partOf, statusIn, countIn, entryIn, withStatus}
 use Rattle.image.specs.LayoutLaws.{same-part, part-number}
 use Rattle.image.specs.Recover.{seenIn, performedIn, planIn, imageAfter}
-use Rattle.image.specs.Visit.{visited, visitFrom, settled}
+use Rattle.image.specs.Visit.{visited, visitFrom, replaced}
 use Rattle.image.proofs.ClaimLaws.{and-none}
 
 -- a store keeps the length, and a word's store the descriptors
-pub settled-length : (x : List ℕ) (d a v : ℕ) → length (settled x d a v) ≡ length x
-unfolding settled
-settled-length x d a v = go (pointsTo (wordOf x a) d)
+pub replaced-length : (x : List ℕ) (d a v : ℕ) → length (replaced x d a v) ≡ length x
+unfolding replaced
+replaced-length x d a v = go (pointsTo (wordOf x a) d)
   where
     go : (t : Bool) → length (cond t (withWord x a (Plain v false)) x) ≡ length x
     go true = number-length x _ _
     go false = refl
 
-pub settled-part : (x : List ℕ) (n d a v : ℕ) → a < n → descriptorPlace n d + 112 ≤ length x → partOf (settled x d a v) n d ≡ partOf x n d
-unfolding settled
-settled-part x n d a v l h = go (pointsTo (wordOf x a) d)
+pub replaced-part : (x : List ℕ) (n d a v : ℕ) → a < n → descriptorPlace n d + 112 ≤ length x → partOf (replaced x d a v) n d ≡ partOf x n d
+unfolding replaced
+replaced-part x n d a v l h = go (pointsTo (wordOf x a) d)
   where
     go : (t : Bool) → partOf (cond t (withWord x a (Plain v false)) x) n d ≡ partOf x n d
     go true =
@@ -88,8 +88,8 @@ module _ (n : ℕ) (x : List ℕ) (d : ℕ) (f : isFree (statusIn (partOf x n d)
         let y : suc (2 * i) % 2 ≡ 1 = omega arith in
         live-plan (suc (2 * i)) ∙ rw (z, lt-ltb (suc (2 * i)) 8 (omega arith), lt-ltb i (countIn (partOf x n d)) l, y)
 
-    even-image : imageAfter n x d (2 * i) ≡ settled x d (entryIn (partOf x n d) i .address) (leftValue (statusIn (partOf x n d)) (entryIn (partOf x n d) i))
-    unfolding imageAfter settled
+    even-image : imageAfter n x d (2 * i) ≡ replaced x d (entryIn (partOf x n d) i .address) (leftValue (statusIn (partOf x n d)) (entryIn (partOf x n d) i))
+    unfolding imageAfter replaced
     even-image =
         rw even-plan
         (go (pointsTo (wordOf x (entryIn (partOf x n d) i .address)) d) (entryIn (partOf x n d) i .address)
@@ -131,21 +131,21 @@ module _ (n : ℕ) (x : List ℕ) (d c : ℕ) (e : countIn (partOf x n d) ≡ c)
 -- two steps at an entry, of an allowance for one at least
 module _ (n : ℕ) (x : List ℕ) (d : ℕ) (f : isFree (statusIn (partOf x n d)) ≡ false) (h : descriptorPlace n d + 112 ≤ length x) (i : ℕ) (l : i < countIn (partOf x n d))
     (m : countIn (partOf x n d) ≤ 4) (a v : ℕ) (p : a ≡ entryIn (partOf x n d) i .address) (q : v ≡ leftValue (statusIn (partOf x n d)) (entryIn (partOf x n d) i)) (o : a < n) where
-  first : (b : ℕ) → visitFrom (suc b) n x d (2 * i) ≡ visitFrom b n (settled x d a v) d (suc (2 * i))
+  first : (b : ℕ) → visitFrom (suc b) n x d (2 * i) ≡ visitFrom b n (replaced x d a v) d (suc (2 * i))
   first b = next-step b n x d (2 * i) (suc (2 * i)) (next-of _ _ (even-plan n x d f i l m)) ∙ rw (even-image n x d f i l m, p, q)
 
-  same : partOf (settled x d a v) n d ≡ partOf x n d
-  same = settled-part x n d a v o h
+  same : partOf (replaced x d a v) n d ≡ partOf x n d
+  same = replaced-part x n d a v o h
 
-  second : (b : ℕ) → visitFrom (suc b) n (settled x d a v) d (suc (2 * i)) ≡ visitFrom b n (settled x d a v) d (suc (suc (2 * i)))
+  second : (b : ℕ) → visitFrom (suc b) n (replaced x d a v) d (suc (2 * i)) ≡ visitFrom b n (replaced x d a v) d (suc (suc (2 * i)))
   second b =
-      let y = settled x d a v in
+      let y = replaced x d a v in
       let g : isFree (statusIn (partOf y n d)) ≡ false = rw same f in
       let j : i < countIn (partOf y n d) = rw same l in
       let k : countIn (partOf y n d) ≤ 4 = rw same m in
       next-step b n y d (suc (2 * i)) (suc (suc (2 * i))) (next-of _ _ (odd-plan n y d g i j k)) ∙ rw (odd-image n y d g i j k)
 
-  pub visit-entry : (b : ℕ) → 0 < b → visitFrom b n x d (2 * i) ≡ visitFrom (b - 2) n (settled x d a v) d (2 * (i + 1))
+  pub visit-entry : (b : ℕ) → 0 < b → visitFrom b n x d (2 * i) ≡ visitFrom (b - 2) n (replaced x d a v) d (2 * (i + 1))
   unfolding visitFrom
   visit-entry zero g = absurd (omega arith)
   visit-entry (suc zero) g = first 0

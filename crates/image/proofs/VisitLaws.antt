@@ -20,20 +20,20 @@ use Rattle.image.specs.Layout.{wordOf, descriptorPlace, partOf, statusIn
 use Rattle.image.specs.Check.{badBody}
 use Rattle.image.specs.Good.{live-count, entry-good, entry-small, chosen-small}
 use Rattle.image.specs.Recover.{seenIn, planIn, imageAfter}
-use Rattle.image.specs.Visit.{Visited, visited, visitFrom, freed, settled, pickedPlace, valuePlace}
+use Rattle.image.specs.Visit.{Visited, visited, visitFrom, freed, replaced, pickedPlace, valuePlace}
 use Rattle.image.proofs.PartLaws.{free-number}
-use Rattle.image.proofs.StepLaws.{settled-length, settled-part, freed-count, next-step, last-step, next-of, end-plan, end-image, last-plan, last-image, visit-entry}
+use Rattle.image.proofs.StepLaws.{replaced-length, replaced-part, freed-count, next-step, last-step, next-of, end-plan, end-image, last-plan, last-image, visit-entry}
 use Rattle.image.proofs.ClaimLaws.{given, given-part}
 
 -- the entry's word
 module _ (x : List ℕ) (d a v : ℕ) (t : Bool) (e : t ≡ pointsTo (wordOf x a) d) where
-  pub settle-there : (y : List ℕ) → v < 2 ^ 61 → t ≡ true → y ≡ withNumber x (8 * a) v → y ≡ settled x d a v
-  unfolding settled
-  settle-there y l f g = let z : v % 2 ^ 61 ≡ v = omega arith in g ∙ rw (← e, f, z)
+  pub replace-there : (y : List ℕ) → v < 2 ^ 61 → t ≡ true → y ≡ withNumber x (8 * a) v → y ≡ replaced x d a v
+  unfolding replaced
+  replace-there y l f g = let z : v % 2 ^ 61 ≡ v = omega arith in g ∙ rw (← e, f, z)
 
-  pub settle-else : t ≡ false → x ≡ settled x d a v
-  unfolding settled
-  settle-else f = rw (← e, f)
+  pub replace-else : t ≡ false → x ≡ replaced x d a v
+  unfolding replaced
+  replace-else f = rw (← e, f)
 
 -- the value's place
 pub value-succeeded : (u : ℕ) → u % 2 ^ 63 ≡ 2 → 32 ≡ valuePlace (statusOf u)
@@ -147,7 +147,7 @@ module _ (n d s c : ℕ) (x₀ : List ℕ) (h : 8 * n + 112 * d + 112 ≤ length
 
       -- its two steps, of an allowance for one at least
       module _ (a w v : ℕ) (y : List ℕ) (f : left ≡ 0 → ⊥) (pa : a ≡ numberAt (given x n d) (16 + 24 * i)) (pw : w ≡ valuePlace (statusOf s)) (pv : v ≡ numberAt (given x n d) (w + 24 * i))
-          (py : y ≡ settled x d a v) where
+          (py : y ≡ replaced x d a v) where
         rest-then : visitFrom (left - 2) n y d (2 * (i + 1)) ≡ visitFrom allowance n x₀ d 0
         rest-then =
             let m : countIn (partOf x n d) ≤ 4 = rw count-now (k .few) in
@@ -164,8 +164,8 @@ module _ (n d s c : ℕ) (x₀ : List ℕ) (h : 8 * n + 112 * d + 112 ≤ length
             record {
               within = omega arith;
               few = k .few;
-              part = rw py (settled-part x n d a v (below a pa) fits-now ∙ k .part);
-              long = rw py (settled-length x d a v ∙ k .long);
+              part = rw py (replaced-part x n d a v (below a pa) fits-now ∙ k .part);
+              long = rw py (replaced-length x d a v ∙ k .long);
               rest = rw z at rest-then;
             }
 

@@ -8,6 +8,7 @@ use lib.Dec.{eqb, leb, ltb}
 use borrow.Author.Tests.{eqb-true, eqb-false, leb-true, ltb-true, not-false}
 use Rattle.memory.specs.Fresh.{within}
 use Rattle.events.specs.Refusal.{Check, check, firstOf}
+use Rattle.events.specs.First.{and-first, and-second}
 use Rattle.image.specs.Layout.{Sized}
 use Rattle.image.specs.Check.{someBelow, badSizes, badLength, badStatuses, badBodies, badWords, badPointers, imageRefusal}
 
@@ -19,15 +20,6 @@ pub or-right : (a b : Bool) → (a || b) ≡ false → b ≡ false
 or-right false b e = e
 or-right true false e = refl
 or-right true true e = e
-
-pub and-left : (a b : Bool) → (a && b) ≡ true → a ≡ true
-and-left true b e = refl
-and-left false b e = e
-
-pub and-right : (a b : Bool) → (a && b) ≡ true → b ≡ true
-and-right true b e = e
-and-right false true e = refl
-and-right false false e = e
 
 module _ (f : ℕ → Bool) where
   one-more : (n : ℕ) (r : Bool) → someBelow n f ≡ false → r ≡ f n → someBelow (n + 1) f ≡ r
@@ -96,12 +88,12 @@ pub record Accepted (n k : ℕ) (x : List ℕ) : Type 0 where
 pub sizes-small : (n k : ℕ) → badSizes n k ≡ false → (0 < n) × ((n ≤ 64) × ((0 < k) × (k ≤ 16)))
 sizes-small n k e =
     let w = not-false (within n 64 && within k 16) e in
-    let a = and-left (within n 64) (within k 16) w in
-    let b = and-right (within n 64) (within k 16) w in (
-      ltb-true _ _ (and-left (ltb 0 n) (leb n 64) a),
+    let a = and-first (within n 64) (within k 16) w in
+    let b = and-second (within n 64) (within k 16) w in (
+      ltb-true _ _ (and-first (ltb 0 n) (leb n 64) a),
       (
-        leb-true _ _ (and-right (ltb 0 n) (leb n 64) a),
-        (ltb-true _ _ (and-left (ltb 0 k) (leb k 16) b), leb-true _ _ (and-right (ltb 0 k) (leb k 16) b)),
+        leb-true _ _ (and-second (ltb 0 n) (leb n 64) a),
+        (ltb-true _ _ (and-first (ltb 0 k) (leb k 16) b), leb-true _ _ (and-second (ltb 0 k) (leb k 16) b)),
       ),
     )
 

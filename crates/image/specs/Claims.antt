@@ -37,8 +37,8 @@ badMarked t (Plain v dirty) = false
 badMarked t (Pointer d dirty) = not t
 badMarked t (Neither w) = true
 
-abbrev pub badMarkeds : ℕ → List ℕ → List Bool → Bool
-badMarkeds n x m = someBelow n (λ a. badMarked (getD m a false) (wordOf x a))
+abbrev pub badMarkedWords : ℕ → List ℕ → List Bool → Bool
+badMarkedWords n x m = someBelow n (λ a. badMarked (getD m a false) (wordOf x a))
 
 -- 21 or 22
 abbrev pub badDescriptors : ℕ → ℕ → List ℕ → Bool

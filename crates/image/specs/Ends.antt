@@ -111,7 +111,7 @@ run-frees (suc s) n k x Outside g r b c = b
 run-frees (suc s) n k x (At d done) g r b c =
     run-frees s n k (imageAfter n x d done) (placeThen n k x d done) (step-good n k x d done g r) (step-stands n k x d done g r) (step-behind n k x g d done r b) c
 
-is-free : (s : Status) → isFree s ≡ true → s ≡ Free
+pub is-free : (s : Status) → isFree s ≡ true → s ≡ Free
 is-free Free e = refl
 is-free Undecided e = let z : _≡_ {A = ℕ} 0 1 = cc in absurd (omega arith)
 is-free (Decided o dirty) e = let z : _≡_ {A = ℕ} 0 1 = cc in absurd (omega arith)

@@ -14,10 +14,11 @@ use Rattle.word.specs.declared.Status.the-variants.{Free}
 use Rattle.steps.specs.declared.Entry.{Entry}
 use Rattle.steps.specs.Plan.{isFree, pointsTo, chosen}
 use Rattle.memory.specs.Fresh.{within}
+use Rattle.events.specs.First.{and-first, and-second}
 use Rattle.little.specs.Laws.{number-length}
 use Rattle.image.specs.Layout.{Sized, wordOf, withWord, partOf, statusIn, countIn, entryIn, withStatus}
 use Rattle.image.specs.Check.{badSizes, someBelow, isBad, badStatus, badEntry, badAt, badBody, isNeither, hasAddress, badTarget, badPointer, badPointerAt, imageRefusal}
-use Rattle.image.specs.CheckLaws.{or-left, or-right, and-left, and-right, none-below, below-all, Accepted, accepted-back, accepted-sized}
+use Rattle.image.specs.CheckLaws.{or-left, or-right, none-below, below-all, Accepted, accepted-back, accepted-sized}
 use Rattle.image.specs.LayoutLaws.{word-stored, word-other, part-word, status-freed, word-status, part-status}
 
 -- what the checks 20 to 24 leave, number by number
@@ -122,7 +123,7 @@ module _ (n k : ℕ) (x : List ℕ) (g : Good n k x) (d : ℕ) (h : d < k) (none
 few : (c : ℕ) (t : Bool) → (not (within c 4) || t) ≡ false → (0 < c) × (c ≤ 4)
 few c t e =
     let w = not-false (within c 4) (or-left (not (within c 4)) t e) in
-    (ltb-true _ _ (and-left (ltb 0 c) (leb c 4) w), leb-true _ _ (and-right (ltb 0 c) (leb c 4) w))
+    (ltb-true _ _ (and-first (ltb 0 c) (leb c 4) w), leb-true _ _ (and-second (ltb 0 c) (leb c 4) w))
 
 module _ (n : ℕ) (p : List ℕ) (b : badBody n p ≡ false) (f : isFree (statusIn p) ≡ false) where
   pub open-body : (not (within (countIn p) 4) || someBelow (countIn p) (λ i. badAt n p i)) ≡ false

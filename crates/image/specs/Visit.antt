@@ -39,8 +39,8 @@ freed (suc zero) n x d = visited (withStatus x n d Free) Stopped
 freed (suc (suc a)) n x d = visited (withStatus x n d Free) (Over a)
 
 -- an entry's first step: a word at a that points to d becomes v, not dirty
-unfoldable pub settled : List ℕ → ℕ → ℕ → ℕ → List ℕ
-settled x d a v = cond (pointsTo (wordOf x a) d) (withWord x a (Plain v false)) x
+unfoldable pub replaced : List ℕ → ℕ → ℕ → ℕ → List ℕ
+replaced x d a v = cond (pointsTo (wordOf x a) d) (withWord x a (Plain v false)) x
 
 -- where in a descriptor's bytes entry 0 has the value that an outcome picks, that a status leaves
 abbrev pub pickedPlace : Outcome → ℕ

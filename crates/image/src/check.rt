@@ -102,9 +102,9 @@ fn marked_bad(mark: bool, s: Sort) -> bool
 }
 
 // 23 or 24, over all words.
-fn markeds_bad(n: u64, image: &[u8], marks: &[bool; 64]) -> bool
+fn marked_words_bad(n: u64, image: &[u8], marks: &[bool; 64]) -> bool
     requires { ⌜ n ≤ 64 ⌝ }
-    ensures { λ r. ⌜ r ≡ M.badMarkeds n (now (image .entry)) (now (marks .entry)) ⌝ }
+    ensures { λ r. ⌜ r ≡ M.badMarkedWords n (now (image .entry)) (now (marks .entry)) ⌝ }
 {
     let mut a = 0;
     while a < n {
@@ -132,7 +132,7 @@ fn content_refusal(n: u64, k: u64, image: &[u8]) -> u64
         return 22;
     }
     let marks = claimed(n, k, image);
-    if markeds_bad(n, image, &marks) {
+    if marked_words_bad(n, image, &marks) {
         if words_bad(n, image) {
             return 23;
         }

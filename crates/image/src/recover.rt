@@ -25,9 +25,9 @@ enum Visit {
 }
 
 // A word at a that points to d becomes v, not dirty.
-fn settle(image: &mut [u8], d: u64, a: u64, v: u64)
+fn replace(image: &mut [u8], d: u64, a: u64, v: u64)
     requires { ⌜ (a < 64) × ((d < 16) × (v < 2 ^ 61)) ⌝ }
-    ensures { λ _. ⌜ now (image .exit) ≡ D.settled (now (image .entry)) d a v ⌝ }
+    ensures { λ _. ⌜ now (image .exit) ≡ D.replaced (now (image .entry)) d a v ⌝ }
 {
     if points_to(image, a, d) {
         write_u64(image, 8 * a as usize, v);
@@ -79,7 +79,7 @@ fn visit_live(n: u64, image: &mut [u8], d: u64, allowance: u64, status: u64) -> 
         let part = &image[from..to];
         let a = read_u64(part, 16 + at);
         let v = read_u64(part, value + at);
-        settle(image, d, a, v);
+        replace(image, d, a, v);
         left = left - 1;
         if left == 0 {
             return Visit::Stopped;

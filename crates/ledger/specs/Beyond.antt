@@ -8,20 +8,11 @@ use native.Mathlib.Omega.{arith}
 use native.Mathlib.Decide.{ℕ-discrete, decLt}
 use borrow.Author.Tests.{le-leb}
 use lib.ListN.{length, getD}
-use Rattle.steps.specs.declared.Worker.{Worker}
-use Rattle.steps.specs.declared.Worker.the-variants.{Idle, Building, Working, Reading, ReadClear}
-use Rattle.steps.specs.declared.RecoveryPlace.{RecoveryPlace}
-use Rattle.steps.specs.declared.RecoveryPlace.the-variants.{Outside, At}
-use Rattle.steps.specs.declared.Effect as E
-use Rattle.steps.specs.declared.Effect.{Effect}
-use Rattle.steps.specs.declared.Effect.the-variants.{Nothing, StoreWord, StoreStatus}
-use Rattle.memory.specs.declared.Copy.the-variants.{Cached}
+use Rattle.steps.specs.declared.Worker.the-variants.{Idle}
 use Rattle.memory.specs.declared.Sizes.{Sizes}
-use Rattle.memory.specs.declared.Found.{Found}
-use Rattle.memory.specs.declared.Found.the-variants.{Here, Missing}
 use Rattle.memory.specs.Block.{Block}
 use Rattle.memory.specs.Block.Field.{worker}
-use Rattle.memory.specs.Content.{wordIn, workerIn, recoveryIn}
+use Rattle.memory.specs.Content.{workerIn, recoveryIn}
 use Rattle.memory.specs.Fresh.{sizesIn}
 use Rattle.memory.specs.Fields.{Whole}
 use Rattle.memory.specs.Laws.{same-worker}
@@ -31,44 +22,21 @@ use Rattle.events.specs.declared.Event.the-variants.{Open, Add, Remove, Submit,
 use Rattle.events.specs.declared.Event as H
 use Rattle.events.specs.Build.{lowestBelow}
 use Rattle.events.specs.Refusal.{firstOf, refusalOf}
-use Rattle.machine.specs.Step.{planAt}
-use Rattle.machine.specs.Recover.{recoveryPlanAt}
-use Rattle.machine.specs.Kept.{SparedBy, SparedByStep, SparedByOpen, SparedByRecovery, Spared, spared-kept}
+use Rattle.machine.specs.Kept.{NotWorker, Spared, spared-kept}
 use Rattle.machine.specs.Apply.{applyOf}
-use Rattle.ledger.specs.Rules.{readPlan, readClearPlan}
 use Rattle.ledger.specs.Statement.{memoryAt}
 use Rattle.ledger.specs.Update.{clash}
 use Rattle.ledger.specs.Cells.{State}
 use Rattle.ledger.specs.ViewCrash.{view-crash}
+use Rattle.ledger.specs.Spares.{Apart, step-spares, open-spares, recovery-spares}
 use Rattle.ledger.specs.History.{memory-next, memory-past, memory-whole, memory-sizes}
 
 -- an event of another worker does not touch the row of v
-effect-spares : (d : ℕ) (e : Effect) (v j : ℕ) → SparedBy d e (worker v j)
-effect-spares d Nothing v j = tt
-effect-spares d (StoreWord a s) v j = λ e. clash (cc)
-effect-spares d (E.the-variants.BackWord a) v j = λ e. clash (cc)
-effect-spares d (StoreStatus s) v j = λ e. clash (cc)
-effect-spares d E.the-variants.BackStatus v j = λ e. clash (cc)
-effect-spares d E.the-variants.BackBody v j = λ i e. clash (cc)
+row-apart : (v j : ℕ) → Apart (worker v j)
+row-apart v j = record { words = λ c a e. clash (cc); statuses = λ c d e. clash (cc); bodies = λ c d i e. clash (cc) }
 
-module _ (u v : ℕ) (other : u ≢ v) where
-  row-spared : (j i : ℕ) → worker u i ≡ worker v j → ⊥
-  row-spared j i e = other (cc)
-
-  step-spares : (m : Block) (x : Worker) (j : ℕ) → SparedByStep m u x (worker v j)
-  step-spares m Idle j = tt
-  step-spares m (Building d) j = tt
-  step-spares m (Working o d p) j = (effect-spares d (planAt m u o d p .effect) v j, row-spared j)
-  step-spares m (Reading a) j = (effect-spares 0 (readPlan a (wordIn Cached m a) .effect) v j, row-spared j)
-  step-spares m (ReadClear a x) j = (effect-spares 0 (readClearPlan a x (wordIn Cached m a) .effect) v j, row-spared j)
-
-  open-spares : (f : Found) (j : ℕ) → SparedByOpen u f (worker v j)
-  open-spares (Here d) j = (λ i e. clash (cc), row-spared j)
-  open-spares Missing j = tt
-
-recovery-spares : (m : Block) (p : RecoveryPlace) (v j : ℕ) → SparedByRecovery m p (worker v j)
-recovery-spares m Outside v j = tt
-recovery-spares m (At d t) v j = (effect-spares d (recoveryPlanAt m d t .effect) v j, λ i e. clash (cc))
+row-spared : (u v : ℕ) → u ≢ v → (j : ℕ) → NotWorker u (worker v j)
+row-spared u v other j i e = other (cc)
 
 module _ (m : Block) (h : Whole m) (v : ℕ) (l : sizesIn m .w ≤ v) (idle : workerIn m v ≡ Idle) where
   abbrev Stays : Event → Type 0
@@ -93,7 +61,7 @@ module _ (m : Block) (h : Whole m) (v : ℕ) (l : sizesIn m .w ≤ v) (idle : wo
   unfolding refusalOf firstOf
   idle-kept (Open u) = elim (ℕ-discrete u v) [
     | yes z ↦ none (Open u) (rw (z, le-leb (sizesIn m .w) v l))
-    | no z ↦ spared (Open u) (open-spares u v z (lowestBelow m (sizesIn m .k)))
+    | no z ↦ spared (Open u) (λ j. open-spares (worker v j) (row-apart v j) u (lowestBelow m (sizesIn m .k)) (row-spared u v z j))
   ]
   idle-kept (Add u a x y) = spared (Add u a x y) (λ j i e. clash (cc))
   idle-kept (Remove u a) = spared (Remove u a) (λ j i e. clash (cc))
@@ -111,13 +79,13 @@ module _ (m : Block) (h : Whole m) (v : ℕ) (l : sizesIn m .w ≤ v) (idle : wo
   ]
   idle-kept (Step u) = elim (ℕ-discrete u v) [
     | yes z ↦ none (Step u) (rw (z, le-leb (sizesIn m .w) v l))
-    | no z ↦ spared (Step u) (step-spares u v z m (workerIn m u))
+    | no z ↦ spared (Step u) (λ j. step-spares (worker v j) (row-apart v j) m u (workerIn m u) (row-spared u v z j))
   ]
   idle-kept (BackWord a) = spared (BackWord a) (λ j e. clash (cc))
   idle-kept (BackStatus d) = spared (BackStatus d) (λ j e. clash (cc))
   idle-kept (H.the-variants.BackBody d) = spared (H.the-variants.BackBody d) (λ j i e. clash (cc))
   idle-kept Crash = crash-idles
-  idle-kept Recover = spared Recover (recovery-spares m (recoveryIn m) v)
+  idle-kept Recover = spared Recover (λ j. recovery-spares (worker v j) (row-apart v j) m (recoveryIn m) (λ i e. clash (cc)))
 
 module _ (n k w : ℕ) (es : List Event) where
   idle-first : (v : ℕ) → workerIn (memoryAt n k w es 0) v ≡ Idle

@@ -5,15 +5,8 @@ use mathlib.Core.Bool.{Bool, true, false, cond, _&&_}
 use Prim.Native.Nat.{ℕ, _≤_, _<_}
 use lib.Dec.{eqb, ltb}
 use borrow.Author.Tests.{eqb-true, eqb-false, ltb-true, ltb-false, lt-ltb}
+use Rattle.events.specs.First.{and-first, and-second}
 use Rattle.ledger.specs.Update.{clash}
-
-pub and-first : (s t : Bool) → (s && t) ≡ true → s ≡ true
-and-first true t e = refl
-and-first false t e = e
-
-pub and-second : (s t : Bool) → (s && t) ≡ true → t ≡ true
-and-second true t e = e
-and-second false t e = let z : _≡_ {A = Bool} false true = e in cc
 
 module _ {A : Type 0} (P : A → Type 0) where
   pub cond-if : (t : Bool) (x y : A) → (t ≡ true → P x) → (t ≡ false → P y) → P (cond t x y)

@@ -1,7 +1,7 @@
 -- A step of the block is a turn of the machine on cells, with the same answer.
 use mathlib.Core.Path.{_≡_, refl, sym, ap, _∙_, subst}
 use mathlib.Core.Logic.{_≢_}
-use mathlib.Core.Bool.{Bool, true, false, not, _&&_, _||_}
+use mathlib.Core.Bool.{Bool, false, not, _&&_, _||_}
 use Prim.Native.Nat.{ℕ, zero, suc, _<_, _≤_, _/_}
 use native.Mathlib.Omega.{arith}
 use native.Mathlib.Decide.{ℕ-discrete, decLt}
@@ -32,8 +32,8 @@ use Rattle.events.specs.Build.{ownerOf}
 use Rattle.machine.specs.Step.{seenIn, performed, onJob, otherOn, othersOn, busyAt, workerAfter, answerOf, planAt, workStep, readAfter, readAnswer, readStep, readClearStep, stepOf}
 use Rattle.machine.specs.Whole.{performed-whole}
 use Rattle.machine.specs.Recover.{crashed, placeAfter, recoveryAnswer, recoveryPlanAt, recoveryStepAt, recoverOf}
+use Rattle.image.specs.CheckLaws.{or-left, or-right}
 use Rattle.ledger.specs.Rules.{planOf, readPlan, readClearPlan, recoveryPlan}
-use Rattle.ledger.specs.Update.{clash}
 use Rattle.ledger.specs.Cells.{cellOf, Cells, State, applied, withCells, withWorker, withRecovery}
 use Rattle.ledger.specs.View.{cellsOf, view, view-put-worker, view-put-recovery}
 use Rattle.ledger.specs.ViewCrash.{view-crash, past-worker}
@@ -56,8 +56,7 @@ WorkerFits n k M (ReadClear a v) = a < n
 
 -- none of the first workers is on d, but w
 pub or-no : (s t : Bool) → (s || t) ≡ false → (s ≡ false) × (t ≡ false)
-or-no true t e = clash (cc)
-or-no false t e = (refl, e)
+or-no s t e = (or-left s t e, or-right s t e)
 
 others-no : (m : Block) (w d i : ℕ) → othersOn m w d i ≡ false → (v : ℕ) → v < i → v ≢ w → onJob (workerIn m v) d ≡ false
 unfolding othersOn otherOn

@@ -6,8 +6,6 @@ use native.Mathlib.Omega.{arith}
 use native.Mathlib.Decide.{ℕ-discrete, decLt}
 use lib.Dec.{ltb, leb}
 use borrow.Author.Tests.{eqb-false, leb-false, ltb-true, not-true}
-use Rattle.word.specs.declared.Status.{Status}
-use Rattle.word.specs.declared.Status.the-variants.{Free, Undecided, Decided, Bad}
 use Rattle.steps.specs.declared.Entry.{Entry}
 use Rattle.steps.specs.declared.Worker.{Worker}
 use Rattle.steps.specs.declared.Worker.the-variants.{Idle, Building, Working, Reading, ReadClear}
@@ -29,15 +27,15 @@ use Rattle.events.specs.declared.Event.the-variants.{Open, Add, Remove, Submit,
 use Rattle.events.specs.declared.Answer.the-variants.{Ok, Opened}
 use Rattle.events.specs.Left.{left}
 use Rattle.events.specs.Refusal.{isRecovering, isIdle, isBuilding, isMissing, checksOf, refusalOf}
-use Rattle.events.specs.First.{NoneHolds, none-holds}
+use Rattle.events.specs.First.{NoneHolds, none-holds, and-first, and-second}
 use Rattle.events.specs.Lowest.{Says, lowest-says}
 use Rattle.events.specs.Build.{owns, ownedBelow, qualifies, lowestBelow, opened, buildOf, added, removedEntry, removedAt}
 use Rattle.machine.specs.Kept.{acted-kept}
 use Rattle.machine.specs.Refused.{all-numbered}
 use Rattle.machine.specs.Apply.{acted, unlessRefused, applyOf}
+use Rattle.image.specs.Ends.{is-free}
 use Rattle.ledger.specs.Statement.{bodyIn}
 use Rattle.ledger.specs.Update.{clash}
-use Rattle.ledger.specs.Cond.{and-first, and-second}
 use Rattle.ledger.specs.Cells.{State, withWorker}
 use Rattle.ledger.specs.View.{cellsOf, view, view-body, view-clear-body, view-put-worker}
 use Rattle.ledger.specs.ViewCrash.{past-worker}
@@ -45,6 +43,7 @@ use Rattle.ledger.specs.ViewBuild.{shift, put-in, taken-out}
 use Rattle.ledger.specs.Seen.{body-length}
 use Rattle.ledger.specs.Fits.{CellsFit, EntryFits}
 use Rattle.ledger.specs.Machine.{Turn, Acts, PutIn, refused, opens, adds, removes, submits, discards, begins}
+use Rattle.ledger.specs.Ranges.{below-n, below-k, below-w}
 use Rattle.ledger.specs.Follow.{Follows, WorkerFits, or-no, step-follows, back-word-follows, back-status-follows, back-body-follows, crash-follows, recovery-follows}
 
 -- what the tests of the table say
@@ -65,12 +64,6 @@ building (Building d) e = refl
 building (Working o d p) e = clash (cc)
 building (Reading a) e = clash (cc)
 building (ReadClear a v) e = clash (cc)
-
-free : (s : Status) → isFree s ≡ true → s ≡ Free
-free Free e = refl
-free Undecided e = clash (cc)
-free (Decided o dirty) e = clash (cc)
-free (Bad x) e = clash (cc)
 
 missing : (f : Found) → not (isMissing f) ≡ false → f ≡ Missing
 missing (Here i) e = clash (cc)
@@ -102,23 +95,11 @@ found-below m d a i e = go (hasAt Cached m d a 0) (hasAt Cached m d a 1) (hasAt 
 
 module _ (n k w : ℕ) (nn : n ≤ 64) (kk : k ≤ 16) (ww : w ≤ 8) (kp : 0 < k) (m : Block) (h : Whole m) (sizes : sizesIn m ≡ record { n = n; k = k; w = w })
     (fit : CellsFit n k (cellsOf m)) (workers : (v : ℕ) → WorkerFits n k (cellsOf m) (workerIn m v)) (place : (d t : ℕ) → recoveryIn m ≡ At d t → d < k) where
-  size-n : sizesIn m .n ≡ n
-  size-n = ap (λ (s : Sizes). s .n) sizes
-
   size-k : sizesIn m .k ≡ k
   size-k = ap (λ (s : Sizes). s .k) sizes
 
-  size-w : sizesIn m .w ≡ w
-  size-w = ap (λ (s : Sizes). s .w) sizes
-
-  below-n : (a : ℕ) → leb (sizesIn m .n) a ≡ false → a < n
-  below-n a e = rw (← size-n) (leb-false (sizesIn m .n) a e)
-
-  below-k : (d : ℕ) → leb (sizesIn m .k) d ≡ false → d < k
-  below-k d e = rw (← size-k) (leb-false (sizesIn m .k) d e)
-
   below-8 : (v : ℕ) → leb (sizesIn m .w) v ≡ false → v < 8
-  below-8 v e = let z = leb-false (sizesIn m .w) v e in omega (arith, size-w)
+  below-8 v e = let z = below-w n k w m sizes v e in omega arith
 
   acting : (v : ℕ) (x : Worker) → leb (sizesIn m .w) v ≡ false → isRecovering (recoveryIn m) ≡ false → workerIn m v ≡ x → Acts n k (view m) v x
   acting v x e f p = record { below = below-8 v e; outside = outside (recoveryIn m) f; is = p }
@@ -129,7 +110,7 @@ module _ (n k w : ℕ) (nn : n ≤ 64) (kk : k ≤ 16) (ww : w ≤ 8) (kp : 0 < 
   opened-follows v Missing y a e = clash (cc)
   opened-follows v (Here d) y a e = subst (λ (s : State). Turn n k (view m) (Open v) s (Opened d))
       (sym (view-put-worker (clearBody m d) (cleared-whole m d 13 h) v (Building d) (a .below) ∙ ap (λ (s : State). withWorker s v (Building d)) (view-clear-body m h d (omega (arith, y .below)))))
-      (opens v d a (y .below) (free (statusIn Cached m d) (and-first _ _ (y .does))) (free (statusIn Persisted m d) (and-first _ _ rest)) nobody)
+      (opens v d a (y .below) (is-free (statusIn Cached m d) (and-first _ _ (y .does))) (is-free (statusIn Persisted m d) (and-first _ _ rest)) nobody)
     where
       rest : (isFree (statusIn Persisted m d) && not (ownedBelow m d 8)) ≡ true
       rest = and-second (isFree (statusIn Cached m d)) _ (y .does)
@@ -180,17 +161,17 @@ module _ (n k w : ℕ) (nn : n ≤ 64) (kk : k ≤ 16) (ww : w ≤ 8) (kp : 0 < 
   acted-follows (Open v) c = rw size-k (opened-follows v (lowestBelow m k) (lowest-says m k) (acting v Idle (c .0) (c .1 .0) (idle _ (c .1 .1 .0))) (rw size-k at (c .1 .1 .1 .0)))
   acted-follows (Add v a x y) c = added-follows v (record { address = a; expected = x; desired = y })
       (acting v _ (c .0) (c .1 .0) (building _ (c .1 .1 .0)))
-      (let z = or-no _ _ (c .1 .1 .1 .1 .0) in record { address = below-n a (c .1 .1 .1 .0); expected = leb-false (2 ^ 61) x (z .0); desired = leb-false (2 ^ 61) y (z .1) })
+      (let z = or-no _ _ (c .1 .1 .1 .1 .0) in record { address = below-n n k w m sizes a (c .1 .1 .1 .0); expected = leb-false (2 ^ 61) x (z .0); desired = leb-false (2 ^ 61) y (z .1) })
       (missing _ (c .1 .1 .1 .1 .1 .0)) (leb-false 4 _ (c .1 .1 .1 .1 .1 .1 .0))
   acted-follows (Remove v a) c = removed-follows v a _ refl (acting v _ (c .0) (c .1 .0) (building _ (c .1 .1 .0))) (c .1 .1 .1 .1 .0)
   acted-follows (Submit v) c = let a = acting v _ (c .0) (c .1 .0) (building _ (c .1 .1 .0)) in
       worker-follows (Submit v) v _ (a .below) (submits v (buildOf (workerIn m v)) a (rw (body-length Cached m (buildOf (workerIn m v))) (let z = eqb-false (countIn Cached m (buildOf (workerIn m v))) 0 (c .1 .1 .1 .0) in omega arith)))
   acted-follows (Discard v) c = let a = acting v _ (c .0) (c .1 .0) (building _ (c .1 .1 .0)) in worker-follows (Discard v) v Idle (a .below) (discards v (buildOf (workerIn m v)) a)
-  acted-follows (Read v a) c = let x = acting v Idle (c .0) (c .1 .0) (idle _ (c .1 .1 .0)) in worker-follows (Read v a) v (Reading a) (x .below) (begins v a x (below-n a (c .1 .1 .1 .0)))
+  acted-follows (Read v a) c = let x = acting v Idle (c .0) (c .1 .0) (idle _ (c .1 .1 .0)) in worker-follows (Read v a) v (Reading a) (x .below) (begins v a x (below-n n k w m sizes a (c .1 .1 .1 .0)))
   acted-follows (Step v) c = step-follows n k nn kk m h fit v (below-8 v (c .0)) (outside _ (c .1 .0)) kp (workerIn m v) refl (workers v)
-  acted-follows (BackWord a) c = back-word-follows n k nn kk m h fit kp a (below-n a (c .0))
-  acted-follows (BackStatus d) c = back-status-follows n k nn kk m h fit d (below-k d (c .0))
-  acted-follows (BackBody d) c = back-body-follows n k nn kk m h fit d (below-k d (c .0))
+  acted-follows (BackWord a) c = back-word-follows n k nn kk m h fit kp a (below-n n k w m sizes a (c .0))
+  acted-follows (BackStatus d) c = back-status-follows n k nn kk m h fit d (below-k n k w m sizes d (c .0))
+  acted-follows (BackBody d) c = back-body-follows n k nn kk m h fit d (below-k n k w m sizes d (c .0))
   acted-follows Crash c = crash-follows n k nn kk m h fit
   acted-follows Recover c = rw size-k (recovery-follows n k nn kk m h fit (recoveryIn m) refl (λ d t e. place d t e))
 

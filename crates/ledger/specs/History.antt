@@ -9,17 +9,10 @@ use Rattle.steps.specs.declared.Place.{Place}
 use Rattle.steps.specs.declared.Place.the-variants.{BackBody, StoreUndecided, BackUndecided, Install, InstallClear, Persist, PersistClear, Decide, Settle, SettleClear, Swap, SwapBack, SwapClear, StoreFree, BackFree}
 use Rattle.steps.specs.declared.Worker.{Worker}
 use Rattle.steps.specs.declared.Worker.the-variants.{Idle, Building, Working, Reading, ReadClear}
-use Rattle.steps.specs.declared.RecoveryPlace.{RecoveryPlace}
-use Rattle.steps.specs.declared.RecoveryPlace.the-variants.{Outside, At}
-use Rattle.steps.specs.declared.Effect as E
-use Rattle.steps.specs.declared.Effect.{Effect}
-use Rattle.steps.specs.declared.Effect.the-variants.{Nothing, StoreWord, StoreStatus}
 use Rattle.memory.specs.declared.Copy.the-variants.{Cached}
-use Rattle.memory.specs.declared.Found.{Found}
-use Rattle.memory.specs.declared.Found.the-variants.{Here, Missing}
 use Rattle.memory.specs.Block.{Block}
 use Rattle.memory.specs.Block.Field.{size}
-use Rattle.memory.specs.Content.{wordIn, workerIn, recoveryIn}
+use Rattle.memory.specs.Content.{workerIn, recoveryIn}
 use Rattle.memory.specs.Fresh.{sizesIn, freshBlock}
 use Rattle.memory.specs.Fields.{Whole}
 use Rattle.memory.specs.Laws.{same-sizes}
@@ -28,12 +21,9 @@ use Rattle.events.specs.declared.Event.{Event}
 use Rattle.events.specs.declared.Event.the-variants.{Open, Add, Remove, Submit, Discard, Read, Step, BackWord, BackStatus, Crash, Recover}
 use Rattle.events.specs.declared.Event as H
 use Rattle.events.specs.Build.{ownerOf, lowestBelow}
-use Rattle.machine.specs.Step.{planAt}
-use Rattle.machine.specs.Recover.{recoveryPlanAt}
-use Rattle.machine.specs.Kept.{SparedBy, SparedByStep, SparedByOpen, SparedByRecovery, Spared, spared-kept}
+use Rattle.machine.specs.Kept.{Spared, spared-kept}
 use Rattle.machine.specs.Whole.{apply-whole}
 use Rattle.machine.specs.Apply.{applyOf, afterOf}
-use Rattle.ledger.specs.Rules.{readPlan, readClearPlan}
 use Rattle.ledger.specs.Statement.{memoryAt}
 use Rattle.ledger.specs.Update.{clash}
 use Rattle.ledger.specs.Cells.{Body, Cells}
@@ -41,47 +31,28 @@ use Rattle.ledger.specs.View.{cellsOf, view}
 use Rattle.ledger.specs.PlanFits.{Placed}
 use Rattle.ledger.specs.Follow.{Follows, WorkerFits}
 use Rattle.ledger.specs.FollowApply.{apply-follows}
+use Rattle.ledger.specs.Spares.{Apart, step-spares, open-spares, recovery-spares}
 use Rattle.ledger.specs.Workers.{OnJob, OwnerKnows, WorkKnows, WorkerKnows}
 use Rattle.ledger.specs.Invariant.{Recovery, Invariant}
 use Rattle.ledger.specs.StepTurn.{placed}
 
 -- no event touches the sizes
-effect-spares : (d : ℕ) (e : Effect) (j : ℕ) → SparedBy d e (size j)
-effect-spares d Nothing j = tt
-effect-spares d (StoreWord a s) j = λ e. clash (cc)
-effect-spares d (E.the-variants.BackWord a) j = λ e. clash (cc)
-effect-spares d (StoreStatus s) j = λ e. clash (cc)
-effect-spares d E.the-variants.BackStatus j = λ e. clash (cc)
-effect-spares d E.the-variants.BackBody j = λ i e. clash (cc)
-
-step-spares : (m : Block) (w : ℕ) (x : Worker) (j : ℕ) → SparedByStep m w x (size j)
-step-spares m w Idle j = tt
-step-spares m w (Building d) j = tt
-step-spares m w (Working o d p) j = (effect-spares d (planAt m w o d p .effect) j, λ i e. clash (cc))
-step-spares m w (Reading a) j = (effect-spares 0 (readPlan a (wordIn Cached m a) .effect) j, λ i e. clash (cc))
-step-spares m w (ReadClear a v) j = (effect-spares 0 (readClearPlan a v (wordIn Cached m a) .effect) j, λ i e. clash (cc))
-
-open-spares : (w : ℕ) (f : Found) (j : ℕ) → SparedByOpen w f (size j)
-open-spares w (Here d) j = (λ i e. clash (cc), λ i e. clash (cc))
-open-spares w Missing j = tt
-
-recovery-spares : (m : Block) (p : RecoveryPlace) (j : ℕ) → SparedByRecovery m p (size j)
-recovery-spares m Outside j = tt
-recovery-spares m (At d t) j = (effect-spares d (recoveryPlanAt m d t .effect) j, λ i e. clash (cc))
+size-apart : (j : ℕ) → Apart (size j)
+size-apart j = record { words = λ c a e. clash (cc); statuses = λ c d e. clash (cc); bodies = λ c d i e. clash (cc) }
 
 size-spared : (m : Block) (e : Event) (j : ℕ) → Spared m e (size j)
-size-spared m (Open w) j = open-spares w (lowestBelow m (sizesIn m .k)) j
+size-spared m (Open w) j = open-spares (size j) (size-apart j) w (lowestBelow m (sizesIn m .k)) (λ i e. clash (cc))
 size-spared m (Add w a x y) j = λ i e. clash (cc)
 size-spared m (Remove w a) j = λ i e. clash (cc)
 size-spared m (Submit w) j = λ i e. clash (cc)
 size-spared m (Discard w) j = λ i e. clash (cc)
 size-spared m (Read w a) j = λ i e. clash (cc)
-size-spared m (Step w) j = step-spares m w (workerIn m w) j
+size-spared m (Step w) j = step-spares (size j) (size-apart j) m w (workerIn m w) (λ i e. clash (cc))
 size-spared m (BackWord a) j = λ e. clash (cc)
 size-spared m (BackStatus d) j = λ e. clash (cc)
 size-spared m (H.the-variants.BackBody d) j = λ i e. clash (cc)
 size-spared m Crash j = record { words = λ a e. clash (cc); statuses = λ d e. clash (cc); bodies = λ d i e. clash (cc); workers = λ w i e. clash (cc); place = λ i e. clash (cc) }
-size-spared m Recover j = recovery-spares m (recoveryIn m) j
+size-spared m Recover j = recovery-spares (size j) (size-apart j) m (recoveryIn m) (λ i e. clash (cc))
 
 pub apply-sizes : (m : Block) (e : Event) → sizesIn (applyOf m e .memory) ≡ sizesIn m
 apply-sizes m e = same-sizes m (applyOf m e .memory) (λ j. spared-kept (size j) m e (size-spared m e j))

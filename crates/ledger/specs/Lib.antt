@@ -23,6 +23,7 @@ pub mod NextKnown
 pub mod WorkStep
 pub mod Body
 pub mod ViewBuild
+pub mod Ranges
 pub mod FollowApply
 pub mod Still
 pub mod Fire
@@ -36,6 +37,7 @@ pub mod EventTurn
 pub mod RecoveryTurn
 pub mod Turns
 pub mod Read
+pub mod Spares
 pub mod History
 pub mod Moments
 pub mod Clauses
@@ -46,7 +48,6 @@ pub mod Once
 pub mod Last
 pub mod Answers
 pub mod ReadCourse
-pub mod Ranges
 pub mod Demand
 pub mod Small
 pub mod SmallKept

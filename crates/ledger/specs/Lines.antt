@@ -14,12 +14,12 @@ use Rattle.word.specs.declared.Outcome.the-variants.{Succeeded, Failed}
 use Rattle.events.specs.declared.Answer.{Answer}
 use Rattle.events.specs.declared.Answer.the-variants.{Ok, Opened, Moved, Helping, Waits, Answered, Shows, Recovering, Recovered, Refused}
 use Rattle.events.specs.Event.{lettersOf, figureOf}
+use Rattle.events.specs.First.{both}
 use Rattle.answers.specs.Decimal.{decimalOf}
 use Rattle.answers.specs.DecimalLaws.{onlyDigits, decimal-some, decimal-digits}
 use Rattle.answers.specs.Line.{spaced, said, lineOf}
 use Rattle.ledger.specs.OverBytes.{before, linesOf, letterIn, ledgerValues, ledgerLine}
 use Rattle.ledger.specs.Update.{clash}
-use Rattle.ledger.specs.Operations.{both}
 
 -- the lines put together
 flatten-before : (b : ℕ) (ls : List (List ℕ)) → flatten (before b ls) ≡ b ∷ flatten ls

@@ -1,7 +1,7 @@
 -- The operations of a history: one that runs is a worker's, its submission is the latest of its descriptor; and the other way round.
 use mathlib.Core.Path.{_≡_, refl, sym, _∙_, ap, subst}
 use mathlib.Core.Logic.{_⊎_, inl, inr, ⊎-elim}
-use mathlib.Core.Bool.{Bool, true, false, _&&_}
+use mathlib.Core.Bool.{Bool, true, false}
 use mathlib.Core.List.{List}
 use Prim.Native.Nat.{ℕ, zero, suc, _≤_, _<_}
 use native.Mathlib.Omega.{arith}
@@ -18,6 +18,7 @@ use Rattle.events.specs.declared.Event.the-variants.{Open, Add, Remove, Submit,
 use Rattle.events.specs.declared.Answer.{Answer}
 use Rattle.events.specs.declared.Answer.the-variants.{Ok, Opened, Moved, Helping, Waits, Answered, Shows, Recovering, Recovered, Refused}
 use Rattle.events.specs.Build.{buildOf}
+use Rattle.events.specs.First.{both}
 use Rattle.machine.specs.Apply.{applyOf}
 use Rattle.ledger.specs.Statement.{memoryAt, Happens, Ends, crash, answered, shown, Operation, enters}
 use Rattle.ledger.specs.Update.{clash}
@@ -37,10 +38,6 @@ owns-runs (Building e) d h = clash (cc)
 owns-runs (Working o e p) d h = h
 owns-runs (Reading a) d h = clash (cc)
 owns-runs (ReadClear a v) d h = clash (cc)
-
-pub both : (s t : Bool) → (s && t) ≡ true → (s ≡ true) × (t ≡ true)
-both true t e = (refl, e)
-both false t e = clash (cc)
 
 is-ok : (r : Answer) → isOk r ≡ true → r ≡ Ok
 is-ok Ok e = refl

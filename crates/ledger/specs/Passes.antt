@@ -22,6 +22,7 @@ use Rattle.memory.specs.Block.{Block}
 use Rattle.memory.specs.Content as C
 use Rattle.memory.specs.Fresh.{within, goodSizes}
 use Rattle.events.specs.declared.Event.{Event}
+use Rattle.events.specs.First.{and-first, and-second}
 use Rattle.image.specs.Layout.{wordOf, partOf, statusIn, countIn, entryIn}
 use Rattle.image.specs.Check.{someBelow, badSizes, isBad, badStatus, badEntry, badAt, badBody, isNeither, hasWithin, hasAddress, badTarget, badPointer, badPointerAt, imageRefusal}
 use Rattle.image.specs.CheckLaws.{none-below, below-all}
@@ -36,7 +37,6 @@ use Rattle.ledger.specs.Fits.{CellFits, EntryFits}
 use Rattle.ledger.specs.Meaning.{Has, at-has}
 use Rattle.ledger.specs.Invariant.{Invariant}
 use Rattle.ledger.specs.Instant.{inv}
-use Rattle.ledger.specs.Cond.{and-first, and-second}
 use Rattle.ledger.specs.Ranges.{ranges}
 use Rattle.ledger.specs.Small.{small-fits}
 use Rattle.ledger.specs.SmallKept.{always-small}

@@ -31,8 +31,9 @@ use Rattle.steps.specs.Plan.{pointsTo, isDirtyPointer, isDirtyPlain, leftValue,
 use Rattle.codes.specs.Place.{placeEntry}
 use Rattle.memory.specs.declared.Copy.{Copy}
 use Rattle.memory.specs.declared.Copy.the-variants.{Cached}
+use Rattle.events.specs.First.{and-first, and-second}
 use Rattle.ledger.specs.Rules.{moreOf, installed, installWord, installBy, install, installClear, persisted, persistClear, decide, settle, swap, swapped, swapClear, storeFree, planOf, readPlan, readClearPlan, entryStep, endStep, liveStep, recoveryPlan}
-use Rattle.ledger.specs.Cond.{cond-if, cond-both, and-first, and-second}
+use Rattle.ledger.specs.Cond.{cond-if, cond-both}
 use Rattle.ledger.specs.Cells.{cellOf, Cells}
 use Rattle.ledger.specs.Seen.{Sees}
 use Rattle.ledger.specs.Fits.{CellFits, EntryFits, CellsFit, EffectFits}

@@ -1,11 +1,13 @@
--- What document 01's ranges for n, k and w say, one by one.
-use mathlib.Core.Path.{_≡_}
-use mathlib.Core.Bool.{true, _&&_}
+-- What document 01's ranges for n, k and w say, one by one; and what a number has that the tables' tests on them let pass.
+use mathlib.Core.Path.{_≡_, subst}
+use mathlib.Core.Bool.{true, false, _&&_}
 use Prim.Native.Nat.{ℕ, _≤_, _<_}
 use lib.Dec.{ltb, leb}
-use borrow.Author.Tests.{ltb-true, leb-true}
-use Rattle.memory.specs.Fresh.{within, goodSizes}
-use Rattle.ledger.specs.Cond.{and-first, and-second}
+use borrow.Author.Tests.{ltb-true, leb-true, leb-false}
+use Rattle.memory.specs.declared.Sizes.{Sizes}
+use Rattle.memory.specs.Block.{Block}
+use Rattle.memory.specs.Fresh.{within, goodSizes, sizesIn}
+use Rattle.events.specs.First.{and-first, and-second}
 
 pub record Ranges (n k w : ℕ) : Type 0 where
   pub words : n ≤ 64
@@ -25,3 +27,14 @@ ranges n k w e =
       workers = leb-true w 8 (and-second (ltb 0 w) (leb w 8) c);
       some = ltb-true 0 k (and-first (ltb 0 k) (leb k 16) b);
     }
+
+-- refusals 10, 17 and 4
+module _ (n k w : ℕ) (m : Block) (sizes : sizesIn m ≡ record { n = n; k = k; w = w }) where
+  pub below-n : (a : ℕ) → leb (sizesIn m .n) a ≡ false → a < n
+  below-n a e = subst (λ (s : Sizes). a < s .n) sizes (leb-false (sizesIn m .n) a e)
+
+  pub below-k : (d : ℕ) → leb (sizesIn m .k) d ≡ false → d < k
+  below-k d e = subst (λ (s : Sizes). d < s .k) sizes (leb-false (sizesIn m .k) d e)
+
+  pub below-w : (v : ℕ) → leb (sizesIn m .w) v ≡ false → v < w
+  below-w v e = subst (λ (s : Sizes). v < s .w) sizes (leb-false (sizesIn m .w) v e)

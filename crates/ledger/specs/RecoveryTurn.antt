@@ -23,10 +23,12 @@ use Rattle.steps.specs.Plan.{pointsTo, isFree, storeIf}
 use Rattle.memory.specs.declared.Copy.{Copy}
 use Rattle.memory.specs.declared.Copy.the-variants.{Cached, Persisted}
 use Rattle.memory.specs.Value.{succeeded}
+use Rattle.events.specs.First.{and-first, and-second}
 use Rattle.machine.specs.Recover.{visitAfter}
+use Rattle.image.specs.Ends.{is-free}
 use Rattle.ledger.specs.Rules.{recoveredValue, recoveryStep, entryStep, endStep, liveStep, recoveryPlan}
 use Rattle.ledger.specs.Update.{clash, upd-if, upd-at, upd-same, upd-other}
-use Rattle.ledger.specs.Cond.{cond-if, cond-lt, cond-both, and-first, and-second}
+use Rattle.ledger.specs.Cond.{cond-if, cond-lt, cond-both}
 use Rattle.ledger.specs.Cells.{Cell, plain, pointer, Belongs, Body, Cells, State, setStatus}
 use Rattle.ledger.specs.Seen.{entryAt, addressAt, Sees}
 use Rattle.ledger.specs.Fits.{CellsFit, EffectFits, fit-applied}
@@ -46,12 +48,6 @@ use Rattle.ledger.specs.WorkTurn.{L⁺, In⁺, Goal, gl, gi, bodies⁺}
 
 free-test : (s : Status) → s ≡ Free → isFree s ≡ true
 free-test s e = rw e
-
-is-free : (s : Status) → isFree s ≡ true → s ≡ Free
-is-free Free e = refl
-is-free Undecided e = clash (cc)
-is-free (Decided o x) e = clash (cc)
-is-free (Bad x) e = clash (cc)
 
 both-true : (s t : Bool) → s ≡ true → t ≡ true → (s && t) ≡ true
 both-true s t p q = rw (p, q)

@@ -1,6 +1,5 @@
 -- What a step may see of the cells. The dirty bit of the word is not there: a step may see either, and the plan of `steps` is run on whatever it sees.
 use mathlib.Core.Path.{_≡_, refl, sym, ap}
-use mathlib.Core.List.{[]}
 use Prim.Native.Nat.{ℕ, zero, suc, _<_}
 use native.Mathlib.Omega.{arith}
 use lib.ListN.{length, getD}

@@ -40,6 +40,7 @@ use Rattle.ledger.specs.View.{cellsOf, view}
 use Rattle.ledger.specs.Seen.{block-sees}
 use Rattle.ledger.specs.Fits.{CellsFit}
 use Rattle.ledger.specs.PlanFits.{plan-fits, read-fits, read-clear-fits, recovery-fits}
+use Rattle.ledger.specs.Ranges.{below-n, below-k}
 use Rattle.ledger.specs.Follow.{WorkerFits, or-no}
 use Rattle.ledger.specs.Invariant.{Recovery}
 use Rattle.ledger.specs.History.{memory-next, memory-past, memory-whole, memory-sizes, worker-fits}
@@ -50,10 +51,7 @@ use Rattle.ledger.specs.Small.{Small, fresh-small, worker-small, place-s
 module _ (n k w : ℕ) (nn : n ≤ 64) (kk : k ≤ 16) (m : Block) (h : Whole m) (sizes : sizesIn m ≡ record { n = n; k = k; w = w }) (fit : CellsFit n k (cellsOf m))
     (workers : (v : ℕ) → WorkerFits n k (cellsOf m) (workerIn m v)) (place : (d t : ℕ) → recoveryIn m ≡ At d t → d < k) (s : Small m) where
   below-16 : (d : ℕ) → leb (sizesIn m .k) d ≡ false → d < 16
-  below-16 d e = let z = leb-false (sizesIn m .k) d e in let y : sizesIn m .k ≡ k = ap (λ (x : Sizes). x .k) sizes in omega arith
-
-  below-n : (a : ℕ) → leb (sizesIn m .n) a ≡ false → a < n
-  below-n a e = let z = leb-false (sizesIn m .n) a e in let y : sizesIn m .n ≡ n = ap (λ (x : Sizes). x .n) sizes in omega arith
+  below-16 d e = let z = below-k n k w m sizes d e in omega arith
 
   opened-small : (v : ℕ) (f : Found) → Small (opened m v f .memory)
   opened-small v (Here d) = worker-small (clearBody m d) (cleared-small 13 m d s h) v (Building d)
@@ -79,13 +77,13 @@ module _ (n k w : ℕ) (nn : n ≤ 64) (kk : k ≤ 16) (m : Block) (h : Whole m)
   acted-small : (e : Event) → NoneHolds (checksOf m e) → Small (acted m e .memory)
   acted-small (Open v) c = opened-small v (lowestBelow m (sizesIn m .k))
   acted-small (Add v a x y) c = let z = or-no _ _ (c .1 .1 .1 .1 .0) in let i = leb-false (2 ^ 61) x (z .0) in let j = leb-false (2 ^ 61) y (z .1) in
-      added-small m s h (buildOf (workerIn m v)) _ (record { address = (let l = below-n a (c .1 .1 .1 .0) in omega arith); expected = omega arith; desired = omega arith })
+      added-small m s h (buildOf (workerIn m v)) _ (record { address = (let l = below-n n k w m sizes a (c .1 .1 .1 .0) in omega arith); expected = omega arith; desired = omega arith })
   acted-small (Remove v a) c = removed-small m s h (buildOf (workerIn m v)) (entryFor Cached m (buildOf (workerIn m v)) a)
   acted-small (Submit v) c = let d = buildOf (workerIn m v) in worker-small m s v (Working (Operation d) d Place.the-variants.BackBody)
   acted-small (Discard v) c = worker-small m s v Idle
   acted-small (Read v a) c = worker-small m s v (Reading a)
   acted-small (Step v) c = step-small v (workerIn m v) (workers v)
-  acted-small (BackWord a) c = performed-small m s h n k 0 (omega arith) (F.the-variants.BackWord a) (below-n a (c .0))
+  acted-small (BackWord a) c = performed-small m s h n k 0 (omega arith) (F.the-variants.BackWord a) (below-n n k w m sizes a (c .0))
   acted-small (BackStatus d) c = performed-small m s h n k d (below-16 d (c .0)) F.the-variants.BackStatus tt
   acted-small (BackBody d) c = performed-small m s h n k d (below-16 d (c .0)) F.the-variants.BackBody tt
   acted-small Crash c = crash-small m s h

@@ -1,8 +1,7 @@
 -- One event: refused, or acted upon.
-use mathlib.Core.Path.{_≡_, refl, sym, _∙_}
+use mathlib.Core.Path.{_≡_, refl, _∙_}
 use mathlib.Core.List.{[], _∷_}
 use Prim.Native.Nat.{ℕ, zero, suc}
-use native.Mathlib.Omega.{arith}
 use Rattle.steps.specs.declared.Entry.{Entry}
 use Rattle.steps.specs.declared.Own.the-variants.{Operation}
 use Rattle.steps.specs.declared.Place.the-variants.{BackBody}
@@ -21,7 +20,6 @@ use Rattle.memory.specs.Fresh.{sizesIn}
 use Rattle.memory.specs.Value.{entryFor}
 use Rattle.events.specs.declared.Event.{Event}
 use Rattle.events.specs.declared.Event.the-variants as Ev
-use Rattle.events.specs.declared.Answer.{Answer}
 use Rattle.events.specs.declared.Answer.the-variants.{Ok, Refused}
 use Rattle.events.specs.Left.{Left, left}
 use Rattle.events.specs.Refusal.{firstOf, checksOf, refusalOf, openChecks, addChecks, removeChecks, submitChecks, discardChecks, readChecks, stepChecks, noAddress, noDescriptor, outsideRecovery}

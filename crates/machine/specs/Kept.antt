@@ -1,8 +1,7 @@
 -- What an event's rule does not name is as it was: for each event, the fields that it spares.
-use mathlib.Core.Path.{_≡_, refl, sym, ap, _∙_}
+use mathlib.Core.Path.{_≡_, refl, _∙_}
 use mathlib.Core.Bool.{Bool, true, false, cond}
-use Prim.Native.Nat.{ℕ, zero, suc, _+_, _-_, _≤_, _<_}
-use native.Mathlib.Omega.{arith}
+use Prim.Native.Nat.{ℕ, zero, suc, _+_, _-_}
 use lib.Dec.{ltb}
 use Rattle.steps.specs.declared.Entry.{Entry}
 use Rattle.steps.specs.declared.Worker.{Worker}
@@ -22,7 +21,7 @@ use Rattle.memory.specs.declared.Found.{Found}
 use Rattle.memory.specs.declared.Found.the-variants.{Here, Missing}
 use Rattle.memory.specs.Block.{Block, Field, get, put}
 use Rattle.memory.specs.Block.Field.{word, status, body, worker, recovery}
-use Rattle.memory.specs.Content.{wordIn, entryIn, putEntry, countIn, crashCopied, idled, clearBody, workerIn, putWorker, recoveryIn, putRecovery}
+use Rattle.memory.specs.Content.{wordIn, entryIn, putEntry, countIn, crashCopied, clearBody, workerIn, putWorker, recoveryIn}
 use Rattle.memory.specs.Fresh.{sizesIn}
 use Rattle.memory.specs.Value.{entryFor}
 use Rattle.memory.specs.Fields.{get-other}
@@ -30,7 +29,6 @@ use Rattle.memory.specs.StoreLaws.{entry-other, cleared-other, row-other, idled
 use Rattle.memory.specs.CopyLaws.{body-back-other, crash-copy-other}
 use Rattle.events.specs.declared.Event.{Event}
 use Rattle.events.specs.declared.Event.the-variants.{Open, Add, Remove, Submit, Discard, Read, Step, BackWord, BackStatus, BackBody, Crash, Recover}
-use Rattle.events.specs.Left.{left}
 use Rattle.events.specs.Refusal.{refusalOf}
 use Rattle.events.specs.Build.{lowestBelow, opened, buildOf, inserted, added, noEntry, movedDown, removedEntry, removedAt}
 use Rattle.machine.specs.Step.{performed, workerAfter, readAfter, planAt, workStep, readStep, readClearStep, stepOf}

@@ -10,9 +10,9 @@ use Rattle.steps.specs.declared.RecoveryPlan.{RecoveryPlan}
 use Rattle.steps.specs.Recovery.{recoveryPlan}
 use Rattle.memory.specs.declared.Copy.the-variants.{Persisted}
 use Rattle.memory.specs.Block.{Block}
-use Rattle.memory.specs.Content.{crashCopied, idled, recoveryIn, putRecovery}
+use Rattle.memory.specs.Content.{crashCopied, idled, putRecovery}
 use Rattle.events.specs.declared.Answer.{Answer}
-use Rattle.events.specs.declared.Answer.the-variants.{Ok, Recovering, Recovered, Refused}
+use Rattle.events.specs.declared.Answer.the-variants.{Recovering, Recovered, Refused}
 use Rattle.events.specs.Left.{Left, left}
 use Rattle.machine.specs.Step.{seenIn, performed}
 

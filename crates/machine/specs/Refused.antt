@@ -6,8 +6,6 @@ use mathlib.Core.List.{List, [], _∷_}
 use Prim.Native.Nat.{ℕ, zero, suc}
 use native.Mathlib.Omega.{arith}
 use lib.Dec.{eqb}
-use Rattle.steps.specs.declared.Place.{Place}
-use Rattle.steps.specs.declared.Own.{Own}
 use Rattle.steps.specs.declared.Worker.{Worker}
 use Rattle.steps.specs.declared.Worker.the-variants.{Idle, Building, Working, Reading, ReadClear}
 use Rattle.steps.specs.declared.Next.{Next}
@@ -25,9 +23,7 @@ use Rattle.memory.specs.Content.{wordIn, workerIn, recoveryIn}
 use Rattle.memory.specs.Fresh.{sizesIn}
 use Rattle.events.specs.declared.Event.{Event}
 use Rattle.events.specs.declared.Event.the-variants.{Open, Add, Remove, Submit, Discard, Read, Step, BackWord, BackStatus, BackBody, Crash, Recover}
-use Rattle.events.specs.declared.Answer as A
 use Rattle.events.specs.declared.Answer.the-variants.{Refused}
-use Rattle.events.specs.Left.{Left, left}
 use Rattle.events.specs.Refusal.{Check, firstOf, isRecovering, isIdle, isBuilding, isMissing, checksOf, refusalOf}
 use Rattle.events.specs.First.{numbered, Gives, gives-first, first-gives, NoneHolds, none-holds, gives-some}
 use Rattle.events.specs.Build.{lowestBelow, opened}

@@ -2,7 +2,6 @@
 use mathlib.Core.Bool.{Bool, true, false, not, _&&_, _||_}
 use Prim.Native.Nat.{ℕ, zero, suc}
 use lib.Dec.{eqb}
-use Rattle.word.specs.declared.Outcome.{Outcome}
 use Rattle.steps.specs.declared.Place.{Place}
 use Rattle.steps.specs.declared.Place.the-variants.{BackBody, StoreUndecided, BackUndecided, Install, InstallClear, Persist, PersistClear, Decide, Settle, SettleClear, Swap, SwapBack, SwapClear, StoreFree, BackFree}
 use Rattle.steps.specs.declared.Own.{Own}

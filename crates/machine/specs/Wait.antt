@@ -1,5 +1,5 @@
 -- Document 01, 7: the owner answers W and changes nothing while another worker's current job is d.
-use mathlib.Core.Path.{_≡_, refl, _∙_, ap}
+use mathlib.Core.Path.{_≡_, ap}
 use mathlib.Core.Bool.{true}
 use Prim.Native.Nat.{ℕ}
 use Rattle.steps.specs.declared.Own.{Own}
@@ -7,7 +7,7 @@ use Rattle.steps.specs.declared.Place.the-variants.{StoreFree}
 use Rattle.steps.specs.declared.Worker.the-variants.{Working}
 use Rattle.codes.specs.Row.{rowOf}
 use Rattle.memory.specs.Block.{Block}
-use Rattle.memory.specs.Content.{rowIn, putRow}
+use Rattle.memory.specs.Content.{rowIn}
 use Rattle.memory.specs.StoreLaws.{row-same}
 use Rattle.events.specs.declared.Answer.the-variants.{Waits}
 use Rattle.events.specs.Left.{left}

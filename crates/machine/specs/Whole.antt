@@ -1,8 +1,7 @@
 -- Every event keeps the block whole, so that what was stored can be read after any events.
-use mathlib.Core.Path.{_≡_, refl}
 use mathlib.Core.Bool.{Bool, true, false, cond}
 use mathlib.Core.List.{List, [], _∷_}
-use Prim.Native.Nat.{ℕ, zero, suc, _+_, _-_}
+use Prim.Native.Nat.{ℕ, zero, suc, _-_}
 use lib.Dec.{ltb}
 use Rattle.steps.specs.declared.Entry.{Entry}
 use Rattle.steps.specs.declared.Worker.{Worker}
@@ -14,12 +13,12 @@ use Rattle.steps.specs.declared.RecoveryPlace.{RecoveryPlace}
 use Rattle.steps.specs.declared.RecoveryPlace.the-variants.{Outside, At}
 use Rattle.steps.specs.Plan.{readPlan, readClearPlan}
 use Rattle.codes.specs.Row.{rowOf}
-use Rattle.memory.specs.declared.Copy.the-variants.{Cached, Persisted}
+use Rattle.memory.specs.declared.Copy.the-variants.{Cached}
 use Rattle.memory.specs.declared.Found.{Found}
 use Rattle.memory.specs.declared.Found.the-variants.{Here, Missing}
-use Rattle.memory.specs.Block.{Block, get, put}
-use Rattle.memory.specs.Block.Field.{word, status, body}
-use Rattle.memory.specs.Content.{wordIn, entryIn, putEntry, countIn, crashCopied, idled, clearBody, workerIn, recoveryIn}
+use Rattle.memory.specs.Block.{Block}
+use Rattle.memory.specs.Block.Field.{body}
+use Rattle.memory.specs.Content.{wordIn, entryIn, putEntry, countIn, crashCopied, clearBody, workerIn, recoveryIn}
 use Rattle.memory.specs.Fresh.{sizesIn}
 use Rattle.memory.specs.Value.{entryFor}
 use Rattle.memory.specs.Fields.{Whole, whole-put}

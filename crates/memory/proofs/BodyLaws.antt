@@ -1,5 +1,5 @@
 -- Bodies: one law for each answer.
-use mathlib.Core.Path.{_≡_, refl, sym, _∙_}
+use mathlib.Core.Path.{_≡_, refl, _∙_}
 use mathlib.Core.Bool.{Bool, true, false, cond}
 use Prim.Native.Nat.{ℕ, suc, _+_, _*_, _<_, _≤_}
 use native.Mathlib.Omega.{arith}
@@ -8,7 +8,6 @@ use borrow.Author.Tests.{lt-ltb, le-ltb}
 use Rattle.memory.specs.declared.Copy.{Copy}
 use Rattle.memory.specs.declared.Copy.the-variants.{Cached, Persisted}
 use Rattle.steps.specs.declared.Entry.{Entry}
-use Rattle.memory.specs.declared.Found.{Found}
 use Rattle.memory.specs.declared.Found.the-variants.{Here, Missing}
 use Rattle.memory.specs.Block.{Block, at, store, slot, get, put}
 use Rattle.memory.specs.Block.Field.{body}

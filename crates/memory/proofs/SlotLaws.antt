@@ -1,12 +1,11 @@
 -- Where a number of the block stands, and what reading and storing it gives.
-use mathlib.Core.Path.{_≡_, refl, sym}
+use mathlib.Core.Path.{_≡_}
 use mathlib.Core.List.{List}
 use Prim.Native.Nat.{ℕ, _+_, _*_, _<_, _≤_}
-use lib.Dec.{ltb}
 use lib.ListN.{getD, set}
 use borrow.Author.Tests.{lt-ltb, le-ltb}
 use Rattle.memory.specs.declared.Copy.{Copy}
-use Rattle.memory.specs.Block.{Block, at, store, baseOf, slot}
+use Rattle.memory.specs.Block.{at, store, baseOf, slot}
 use Rattle.memory.specs.Block.Field.{word, status, body}
 
 -- a number of the block

@@ -1,5 +1,5 @@
 -- The value of a word: one law for each answer.
-use mathlib.Core.Path.{_≡_, refl, _∙_}
+use mathlib.Core.Path.{_≡_}
 use Prim.Native.Nat.{ℕ}
 use Rattle.word.specs.declared.Sort.{Sort}
 use Rattle.word.specs.declared.Status.{Status}

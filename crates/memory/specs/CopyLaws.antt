@@ -12,7 +12,7 @@ use Rattle.memory.specs.declared.Copy.the-variants.{Cached, Persisted}
 use Rattle.memory.specs.Block.{Block, Field, nowhere, baseOf, slot, at, store, get}
 use Rattle.memory.specs.Block.Field.{word, status, body, worker, size, recovery}
 use Rattle.memory.specs.Content.{copied, backBody, crashCopied}
-use Rattle.memory.specs.Fields.{Whole, Somewhere, apart, body-somewhere}
+use Rattle.memory.specs.Fields.{Whole, apart, body-somewhere}
 
 -- one slot
 module _ (m : Block) (i v : ℕ) where

@@ -1,10 +1,10 @@
 -- What a fresh memory holds.
 use mathlib.Core.Path.{_≡_, refl, ap, _∙_}
 use mathlib.Core.Bool.{Bool, true, false, cond}
-use Prim.Native.Nat.{ℕ, _+_, _*_, _<_}
+use Prim.Native.Nat.{ℕ, _+_, _*_}
 use native.Mathlib.Omega.{arith}
 use lib.Dec.{ltb}
-use lib.ListN.{getD, replicate, getD-replicate, length-replicate}
+use lib.ListN.{getD, getD-replicate, length-replicate}
 use borrow.Author.Tests.{ltb-true}
 use Rattle.word.specs.declared.Sort.the-variants.{Plain}
 use Rattle.word.specs.declared.Status.the-variants.{Free}
@@ -15,9 +15,7 @@ use Rattle.steps.specs.declared.RecoveryPlace.the-variants.{Outside}
 use Rattle.codes.specs.Row.{workerOf, recoveryOf}
 use Rattle.memory.specs.declared.Copy.{Copy}
 use Rattle.memory.specs.declared.Copy.the-variants.{Persisted}
-use Rattle.steps.specs.declared.Entry.{Entry}
-use Rattle.memory.specs.declared.Sizes.{Sizes}
-use Rattle.memory.specs.Block.{Block, Field, nowhere, slot, at, get}
+use Rattle.memory.specs.Block.{Field, nowhere, slot, at, get}
 use Rattle.memory.specs.Block.Field.{word, status, body, worker, size, recovery}
 use Rattle.memory.specs.Content.{wordIn, statusIn, countIn, entryIn, workerIn, recoveryIn}
 use Rattle.memory.specs.Fresh.{sizesIn, zeros, freshBlock}

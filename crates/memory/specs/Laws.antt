@@ -1,6 +1,5 @@
 -- Words and statuses: reading what was stored or written back. Every thing: it is as it was where its fields are.
-use mathlib.Core.Path.{_≡_, refl, sym, ap, _∙_}
-use mathlib.Core.Bool.{Bool, true, false}
+use mathlib.Core.Path.{_≡_, refl, ap, _∙_}
 use Prim.Native.Nat.{ℕ, _+_, _*_, _<_, _≤_}
 use native.Mathlib.Omega.{arith}
 use Rattle.word.specs.declared.Sort.{Sort}
@@ -10,18 +9,16 @@ use Rattle.word.specs.Word.{sortOf, wordNumber}
 use Rattle.word.specs.Status.{statusOf, statusNumber}
 use Rattle.word.specs.Laws.{Formed, word-made}
 use Rattle.word.specs.StatusLaws.{StatusFormed, status-made}
-use Rattle.codes.specs.Row.{workerOf, recoveryOf}
 use Rattle.memory.specs.declared.Copy.{Copy}
 use Rattle.memory.specs.declared.Copy.the-variants.{Cached, Persisted}
-use Rattle.steps.specs.declared.Entry.{Entry}
 use Rattle.memory.specs.declared.Found.{Found}
 use Rattle.memory.specs.declared.Found.the-variants.{Here, Missing}
-use Rattle.memory.specs.Block.{Block, Field, get, put}
+use Rattle.memory.specs.Block.{Block, get}
 use Rattle.memory.specs.Block.Field.{word, status, body, worker, size, recovery}
 use Rattle.memory.specs.Fresh.{sizesIn}
 use Rattle.memory.specs.Value.{entryFor, foundValue, pointerValue, sortValue, valueOf}
-use Rattle.memory.specs.Content.{wordIn, putWord, backWord, statusIn, putStatus, backStatus, countIn, entryIn, rowIn, workerIn, recoveryIn}
-use Rattle.memory.specs.Fields.{Whole, word-somewhere, status-somewhere, get-put, get-other}
+use Rattle.memory.specs.Content.{wordIn, putWord, backWord, statusIn, putStatus, backStatus, entryIn, workerIn, recoveryIn}
+use Rattle.memory.specs.Fields.{Whole, word-somewhere, status-somewhere, get-put}
 
 module _ (m : Block) (h : Whole m) where
   module _ (a : ℕ) (l : a < 64) where

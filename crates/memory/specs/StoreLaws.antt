@@ -1,8 +1,7 @@
 -- What the stores of several fields change: an entry, a worker, recovery's place; all they do not name is as it was.
-use mathlib.Core.Path.{_≡_, refl, sym, ap, _∙_}
+use mathlib.Core.Path.{_≡_, refl, ap, _∙_}
 use Prim.Native.Nat.{ℕ, zero, suc, _+_, _*_, _<_, _≤_}
 use native.Mathlib.Omega.{arith}
-use lib.ListN.{length}
 use lib.Dec.{eqb}
 use borrow.Author.Tests.{eqb-true, eqb-false}
 use mathlib.Core.Bool.{Bool, true, false}
@@ -10,15 +9,15 @@ use Rattle.steps.specs.declared.Worker.{Worker}
 use Rattle.steps.specs.declared.Worker.the-variants.{Idle}
 use Rattle.steps.specs.declared.RecoveryPlace.{RecoveryPlace}
 use Rattle.codes.specs.declared.Row.{Row}
-use Rattle.codes.specs.Row.{workerOf, rowOf, recoveryOf, recoveryRow}
+use Rattle.codes.specs.Row.{workerOf, rowOf}
 use Rattle.codes.specs.Round.{worker-round, recovery-round}
-use Rattle.memory.specs.declared.Copy.the-variants.{Cached, Persisted}
+use Rattle.memory.specs.declared.Copy.the-variants.{Cached}
 use Rattle.steps.specs.declared.Entry.{Entry}
-use Rattle.memory.specs.Block.{Block, Field, slot, get, put}
+use Rattle.memory.specs.Block.{Block, Field, get, put}
 use Rattle.memory.specs.Block.Field.{body, worker, recovery}
-use Rattle.memory.specs.Content.{entryIn, putEntry, clearedTo, rowIn, workerIn, putRow, putWorker, idled, recoveryRowIn, recoveryIn, putRecovery}
+use Rattle.memory.specs.Content.{entryIn, putEntry, clearedTo, rowIn, workerIn, putRow, putWorker, idled, recoveryIn, putRecovery}
 use Rattle.memory.specs.Laws.{same-worker}
-use Rattle.memory.specs.Fields.{Whole, Somewhere, body-somewhere, worker-somewhere, recovery-somewhere, length-put, whole-put, get-put, get-other, put-same}
+use Rattle.memory.specs.Fields.{Whole, Somewhere, body-somewhere, worker-somewhere, recovery-somewhere, whole-put, get-put, get-other, put-same}
 
 -- three fields, one after the other
 module _ (m : Block) (f g k : Field) (x y z : ℕ) where

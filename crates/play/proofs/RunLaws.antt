@@ -1,8 +1,8 @@
 -- One record after the other, and the end: one law for each answer.
 use mathlib.Core.Path.{_≡_, refl, sym, ap, _∙_}
 use mathlib.Core.Bool.{Bool, true, false}
-use mathlib.Core.List.{List, [], _∷_, _++_, append-nil}
-use Prim.Native.Nat.{ℕ, zero, suc, _+_, _-_, _<_, _≤_}
+use mathlib.Core.List.{List, [], _∷_, append-nil}
+use Prim.Native.Nat.{ℕ, suc, _+_, _-_, _<_, _≤_}
 use native.Mathlib.Omega.{arith}
 use lib.ListN.{length, drop}
 use lib.Seq.{drop-drop}
@@ -20,9 +20,9 @@ use Rattle.play.specs.declared.Stage.{Stage}
 use Rattle.play.specs.declared.Stage.the-variants.{First, At, Over}
 use Rattle.play.specs.declared.Mark.{Mark}
 use Rattle.play.specs.declared.Progress.{Progress}
-use Rattle.play.specs.Tick.{Turn, refusedTurn, recordTurn, Played, rests, goesOn, playHead, playOf, lastIf, closing}
-use Rattle.play.specs.Done.{Done, done, doneFrom, turnsFor, Marked, marked, markedBy, onceAt, playedInto}
-use Rattle.play.specs.Split.{andThen, playedOn, play-split, play-stuck}
+use Rattle.play.specs.Tick.{refusedTurn, recordTurn, playOf, lastIf, closing}
+use Rattle.play.specs.Done.{Done, done, stayed, doneFrom, turnsFor, Marked, marked, markedBy, onceAt, playedInto}
+use Rattle.play.specs.Split.{playedOn, play-split, play-stuck}
 
 pub fits : (started : Bool) (input : List ℕ) (at : ℕ) (h : Head) (kind n : ℕ) → h ≡ headOf started input at → h ≡ Record kind n → at + 1 + n ≤ length input
 fits started input at h kind n e f = record-says started input at kind n (sym e ∙ f) .fits
@@ -47,13 +47,13 @@ module _ (m : Block) (s : Stage) (started : Bool) (input : List ℕ) (at : ℕ) 
       let z : at + (0 + 0) ≡ at = omega arith in
       rw (front, f, append-nil (t .line), z) (ap (λ (r : Marked). record { memory = r .memory; stage = r .stage; used = at; output = r .output }) k)
 
-  pub turn-short : h ≡ Short → done m (record { stage = s; used = at; written = to }) out ≡ doneFrom out to at (onceAt m s started (drop at input))
+  pub turn-short : h ≡ Short → (r : Progress) → r ≡ stayed s at to → done m r out ≡ doneFrom out to at (onceAt m s started (drop at input))
   unfolding putOf
-  turn-short f = let z : at + 0 ≡ at = omega arith in rw (front, f, z)
+  turn-short f r q = let z : at + 0 ≡ at = omega arith in rw (q, front, f, z)
 
-  pub turn-end : h ≡ End → done m (record { stage = s; used = at; written = to }) out ≡ doneFrom out to at (onceAt m s started (drop at input))
+  pub turn-end : h ≡ End → (r : Progress) → r ≡ stayed s at to → done m r out ≡ doneFrom out to at (onceAt m s started (drop at input))
   unfolding putOf
-  turn-end f = let z : at + 0 ≡ at = omega arith in rw (front, f, z)
+  turn-end f r q = let z : at + 0 ≡ at = omega arith in rw (q, front, f, z)
 
 module _ (m : Block) (s : Stage) (x out : List ℕ) (at to : ℕ) (r : Done) where
   pub turn-first : s ≡ First → r ≡ doneFrom out to at (onceAt m s false x) → r ≡ doneFrom out to at (playOf 1 m s x)
@@ -64,10 +64,10 @@ module _ (m : Block) (s : Stage) (x out : List ℕ) (at to : ℕ) (r : Done) whe
   unfolding playOf
   turn-next i e h = h ∙ rw e refl
 
-pub turn-over : (m : Block) (s : Stage) (x out : List ℕ) (at to : ℕ) (good : Bool) → s ≡ Over good
-    → done m (record { stage = s; used = at; written = to }) out ≡ doneFrom out to at (playOf 1 m s x)
+pub turn-over : (m : Block) (s : Stage) (x out : List ℕ) (at to : ℕ) (good : Bool) → s ≡ Over good → (r : Progress) → r ≡ stayed s at to
+    → done m r out ≡ doneFrom out to at (playOf 1 m s x)
 unfolding playOf putOf
-turn-over m s x out at to good e = let z : at + 0 ≡ at = omega arith in rw (e, z)
+turn-over m s x out at to good e r q = let z : at + 0 ≡ at = omega arith in rw (q, e, z)
 
 -- the end of the input
 pub close-none : (i : ℕ) (m : Block) (rest out : List ℕ) (r : Filled) → length rest ≡ 0 → r ≡ putOf out 0 (lastLine m) → r ≡ putOf out 0 (closing (At i) m rest)

@@ -1,10 +1,8 @@
 -- One record: one law for each answer.
-use mathlib.Core.Path.{_≡_, refl, sym, ap, _∙_}
+use mathlib.Core.Path.{_≡_, _∙_}
 use mathlib.Core.Bool.{Bool, true, false}
-use mathlib.Core.List.{List, [], _∷_, _++_, append-nil}
-use Prim.Native.Nat.{ℕ, suc, _+_, _≤_}
-use native.Mathlib.Omega.{arith}
-use lib.ListN.{length, drop}
+use mathlib.Core.List.{List}
+use Prim.Native.Nat.{ℕ, _+_}
 use borrow.Author.Tests.{eq-eqb, ne-eqb}
 use Rattle.memory.specs.Block.{Block}
 use Rattle.memory.specs.declared.Sizes.{Sizes}
@@ -14,19 +12,14 @@ use Rattle.events.specs.declared.Answer.{Answer}
 use Rattle.events.specs.declared.Answer.the-variants.{Ok, Refused}
 use Rattle.events.specs.Left.{left}
 use Rattle.machine.specs.Apply.{applyOf}
-use Rattle.schedule.specs.declared.Head.{Head}
-use Rattle.schedule.specs.declared.Head.the-variants.{Record, Unknown, Short, End}
-use Rattle.schedule.specs.Record.{headOf, bodyOf}
 use Rattle.schedule.specs.Content.{eventOf, setupOf}
-use Rattle.schedule.specs.Laws.{record-says}
-use Rattle.schedule.specs.Pieces.{head-drop, body-drop}
-use Rattle.answers.specs.Put.{Filled, filled, putOf}
+use Rattle.answers.specs.Put.{filled, putOf}
 use Rattle.answers.specs.Line.{lineOf}
 use Rattle.play.specs.declared.Stage.{Stage}
 use Rattle.play.specs.declared.Stage.the-variants.{First, At, Over}
 use Rattle.play.specs.declared.Mark.{Mark}
-use Rattle.play.specs.Tick.{numberAfter, numberIn, begunIn, Turn, refusedTurn, setupTurn, eventTurn, recordTurn, Played, rests, goesOn, playHead, playOf}
-use Rattle.play.specs.Done.{Done, done, doneFrom, Marked, marked, markedBy, onceAt}
+use Rattle.play.specs.Tick.{numberAfter, numberIn, begunIn, refusedTurn, setupTurn, eventTurn, recordTurn}
+use Rattle.play.specs.Done.{Marked, marked, markedBy}
 
 pub number-last : (i : ℕ) → i ≡ 18446744073709551615 → i ≡ numberAfter i
 unfolding numberAfter

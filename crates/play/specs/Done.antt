@@ -21,6 +21,10 @@ pub record Done : Type 0 where
 abbrev pub done : Block → Progress → List ℕ → Done
 done m r out = record { memory = m; stage = r .stage; used = r .used; output = filled out (r .written) }
 
+-- nothing read, nothing written
+abbrev pub stayed : Stage → ℕ → ℕ → Progress
+stayed s at to = record { stage = s; used = at; written = to }
+
 -- going on at a place of the input and a place of the output
 abbrev pub doneFrom : List ℕ → ℕ → ℕ → Played → Done
 doneFrom out to at p = record { memory = p .memory; stage = p .stage; used = at + p .used; output = putOf out to (p .text) }

@@ -1,21 +1,21 @@
 -- Wherever the input is cut, and however few records are played at a time, what a `Session` writes is `tickOf` of the whole.
 use mathlib.Core.Path.{_≡_, refl, sym, ap, _∙_}
-use mathlib.Core.Bool.{Bool, true, false}
-use mathlib.Core.List.{List, [], _∷_, _++_, append-assoc, append-nil}
-use Prim.Native.Nat.{ℕ, zero, suc, _+_, _-_, _*_, _<_, _≤_}
+use mathlib.Core.Bool.{true, false}
+use mathlib.Core.List.{List, [], _++_, append-assoc, append-nil}
+use Prim.Native.Nat.{ℕ, zero, suc, _+_, _-_, _<_, _≤_}
 use native.Mathlib.Omega.{arith}
-use lib.ListN.{length, take, drop, length-append, length-drop}
+use lib.ListN.{length, drop, length-append, length-drop}
 use lib.Seq.{drop-drop, drop-append-le}
 use Rattle.memory.specs.Block.{Block}
 use Rattle.memory.specs.Fresh.{zeros}
 use Rattle.schedule.specs.declared.Head.{Head}
 use Rattle.schedule.specs.declared.Head.the-variants.{Record, Unknown, Short, End}
-use Rattle.schedule.specs.Record.{headOf, bodyOf}
+use Rattle.schedule.specs.Record.{bodyOf}
 use Rattle.schedule.specs.Laws.{unknown-says}
 use Rattle.schedule.specs.Pieces.{record-append, body-append, unknown-append}
 use Rattle.play.specs.declared.Stage.{Stage}
 use Rattle.play.specs.declared.Stage.the-variants.{First, At, Over}
-use Rattle.play.specs.Tick.{begunIn, Turn, refusedTurn, recordTurn, Played, rests, playOf, closing, outOf, tickOf}
+use Rattle.play.specs.Tick.{begunIn, recordTurn, Played, rests, playOf, closing, outOf, tickOf}
 use Rattle.play.specs.Session.{Session, reads, plays, ends, stops}
 use Rattle.play.specs.Split.{andThen, turnPlayed, headFor, then-then, then-rests, zero-rests, over-rests, short-rests, end-rests, record-goes, unknown-ends, front, play-enough, play-used, play-stuck}
 

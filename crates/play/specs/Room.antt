@@ -1,12 +1,11 @@
 -- The output has room: what `play` and `finish` put into it is all of the text.
-use mathlib.Core.Path.{_≡_, refl, sym, ap, _∙_}
+use mathlib.Core.Path.{_≡_, refl, ap, _∙_}
 use mathlib.Core.Bool.{Bool, true, false}
-use mathlib.Core.List.{List, [], _∷_, _++_}
-use Prim.Native.Nat.{ℕ, zero, suc, _+_, _*_, _/_, _≤_}
+use mathlib.Core.List.{List, [], _∷_}
+use Prim.Native.Nat.{ℕ, zero, suc, _+_, _*_, _≤_}
 use native.Mathlib.Omega.{arith}
 use lib.ListN.{length, take, drop, length-append}
 use Rattle.memory.specs.Block.{Block}
-use Rattle.memory.specs.declared.Sizes.{Sizes}
 use Rattle.memory.specs.Fresh.{freshOf}
 use Rattle.events.specs.declared.Answer.the-variants.{Ok, Refused}
 use Rattle.machine.specs.Apply.{applyOf}
@@ -14,13 +13,12 @@ use Rattle.schedule.specs.declared.Head.{Head}
 use Rattle.schedule.specs.declared.Head.the-variants.{Record, Unknown, Short, End}
 use Rattle.schedule.specs.Record.{bodyOf}
 use Rattle.schedule.specs.Content.{eventOf, setupOf}
-use Rattle.answers.specs.Put.{Filled, putOf}
+use Rattle.answers.specs.Put.{putOf}
 use Rattle.answers.specs.PutLaws.{put-end, put-before}
-use Rattle.answers.specs.Line.{lineOf, lastLine}
 use Rattle.answers.specs.LineLaws.{line-length, last-length}
 use Rattle.play.specs.declared.Stage.{Stage}
 use Rattle.play.specs.declared.Stage.the-variants.{First, At, Over}
-use Rattle.play.specs.Tick.{numberIn, begunIn, Turn, begunTurn, recordTurn, Played, playOf, lastIf, closing}
+use Rattle.play.specs.Tick.{numberIn, begunTurn, recordTurn, playOf, closing}
 use Rattle.play.specs.declared.Progress.{Progress}
 use Rattle.play.specs.Done.{Done, done, turnsFor, playedInto}
 use Rattle.play.specs.Split.{headFor, zero-rests, short-rests, end-rests, record-goes, unknown-ends, play-used}

@@ -1,8 +1,8 @@
 -- Playing some records and then some more is playing them all; more turns than bytes change nothing.
-use mathlib.Core.Path.{_≡_, refl, sym, ap, _∙_}
+use mathlib.Core.Path.{_≡_, refl, sym, _∙_}
 use mathlib.Core.Bool.{Bool, true, false}
 use mathlib.Core.List.{List, [], _∷_, _++_, append-assoc, append-nil}
-use Prim.Native.Nat.{ℕ, zero, suc, _+_, _-_, _<_, _≤_}
+use Prim.Native.Nat.{ℕ, zero, suc, _+_, _-_, _≤_}
 use native.Mathlib.Omega.{arith}
 use lib.ListN.{length, drop, length-drop}
 use lib.Seq.{drop-drop}
@@ -13,7 +13,7 @@ use Rattle.schedule.specs.Record.{headOf, bodyOf}
 use Rattle.schedule.specs.Laws.{record-says}
 use Rattle.play.specs.declared.Stage.{Stage}
 use Rattle.play.specs.declared.Stage.the-variants.{First, At, Over}
-use Rattle.play.specs.Tick.{begunIn, Turn, refusedTurn, recordTurn, Played, rests, goesOn, playHead, playOf}
+use Rattle.play.specs.Tick.{begunIn, Turn, refusedTurn, recordTurn, Played, rests, playHead, playOf}
 
 -- first p, then q
 abbrev pub andThen : Played → Played → Played

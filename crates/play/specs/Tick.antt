@@ -6,8 +6,7 @@ use lib.Dec.{eqb}
 use lib.ListN.{length, drop}
 use Rattle.memory.specs.Block.{Block}
 use Rattle.memory.specs.declared.Sizes.{Sizes}
-use Rattle.memory.specs.Fresh.{zeros, Begun, freshOf}
-use Rattle.events.specs.declared.Answer.{Answer}
+use Rattle.memory.specs.Fresh.{zeros, freshOf}
 use Rattle.events.specs.declared.Answer.the-variants.{Ok, Refused}
 use Rattle.events.specs.Left.{Left}
 use Rattle.machine.specs.Apply.{applyOf}

@@ -17,6 +17,17 @@ ghost use Rattle.answers.specs.Put.{filled, putOf};
 ghost use Rattle.play.specs.Tick as T;
 ghost use Rattle.play.specs.Done as D;
 
+// Nothing is read and nothing is written.
+fn stays(stage: Stage, used: usize, written: usize) -> Progress
+    ensures { λ r. ⌜ r ≡ D.stayed stage used written ⌝ }
+{
+    Progress {
+        stage,
+        used,
+        written,
+    }
+}
+
 // What stands at a place of the input, before the setup or after it.
 fn turn_at(
     m: &mut Memory,
@@ -48,16 +59,8 @@ fn turn_at(
                 written: r.to,
             }
         }
-        Head::Short => Progress {
-            stage: s,
-            used: at,
-            written: to,
-        },
-        Head::End => Progress {
-            stage: s,
-            used: at,
-            written: to,
-        },
+        Head::Short => stays(s, at, to),
+        Head::End => stays(s, at, to),
     }
 }
 
@@ -67,11 +70,7 @@ fn turn(m: &mut Memory, s: Stage, input: &[u8], at: usize, out: &mut [u8], to: u
     match s {
         Stage::First => turn_at(m, s, false, input, at, out, to),
         Stage::At(_) => turn_at(m, s, true, input, at, out, to),
-        Stage::Over(_) => Progress {
-            stage: s,
-            used: at,
-            written: to,
-        },
+        Stage::Over(_) => stays(s, at, to),
     }
 }
 

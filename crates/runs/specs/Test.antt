@@ -1,10 +1,11 @@
 -- The test of a row: computed, and where it is true the row holds.
 use mathlib.Core.Path.{_≡_, refl}
-use mathlib.Core.Bool.{Bool, true, false, _&&_, and-eq-true-iff}
+use mathlib.Core.Bool.{Bool, true, false, _&&_}
 use mathlib.Core.List.{List, [], _∷_}
 use Prim.Native.Nat.{ℕ}
 use lib.Dec.{eqb}
 use borrow.Author.Tests.{eqb-true}
+use Rattle.events.specs.First.{both}
 use Rattle.play.specs.Tick.{tickOf}
 use Rattle.runs.specs.Row.{Row, Every}
 
@@ -17,9 +18,6 @@ same (x ∷ xs) (y ∷ ys) = eqb x y && same xs ys
 abbrev pub allHold : List Row → Bool
 allHold [] = true
 allHold (r ∷ rs) = same (tickOf (r .input)) (r .output) && allHold rs
-
-both : (s t : Bool) → (s && t) ≡ true → (s ≡ true) × (t ≡ true)
-both s t = and-eq-true-iff s t .0
 
 same-holds : (xs ys : List ℕ) → same xs ys ≡ true → xs ≡ ys
 same-holds [] [] h = refl

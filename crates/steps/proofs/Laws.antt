@@ -1,18 +1,16 @@
 -- One law for each answer of the plans: its premises are what the calls ensure and what the tests say.
-use mathlib.Core.Path.{_≡_, refl, sym, ap, _∙_}
+use mathlib.Core.Path.{_≡_, sym, ap, _∙_}
 use mathlib.Core.Bool.{Bool, true, false, _&&_}
 use Prim.Native.Nat.{ℕ, suc, _+_, _/_, _%_, _<_, _≤_}
 use native.Mathlib.Omega.{arith}
-use lib.Dec.{eqb, ltb}
+use lib.Dec.{eqb}
 use borrow.Author.Tests.{eq-eqb, ne-eqb, lt-ltb, le-ltb}
 use Rattle.word.specs.declared.Sort.{Sort}
-use Rattle.word.specs.declared.Sort.the-variants.{Plain, Pointer, Neither}
+use Rattle.word.specs.declared.Sort.the-variants.{Plain, Pointer}
 use Rattle.word.specs.declared.Outcome.{Outcome}
 use Rattle.word.specs.declared.Outcome.the-variants.{Failed}
 use Rattle.word.specs.declared.Status.{Status}
 use Rattle.word.specs.declared.Status.the-variants.{Free, Decided}
-use Rattle.word.specs.Status.{statusCleared}
-use Rattle.steps.specs.declared.Place.{Place}
 use Rattle.steps.specs.declared.Place.the-variants.{Install, InstallClear, Decide, SettleClear, Swap, SwapBack, StoreFree, BackFree}
 use Rattle.steps.specs.declared.Seen.{Seen}
 use Rattle.steps.specs.declared.Entry.{Entry}

@@ -14,14 +14,10 @@ use Rattle.steps.specs.declared.Next.the-variants.{Go}
 use Rattle.steps.specs.declared.Plan.{Plan}
 use Rattle.steps.specs.declared.ReadPlan.{ReadPlan}
 use Rattle.steps.specs.declared.RecoveryPlan.{RecoveryPlan}
-use Rattle.steps.specs.Place.{stepNumber}
 use Rattle.steps.specs.Plan.{readPlan, readClearPlan}
 use Rattle.steps.specs.Plan as P
 use Rattle.steps.specs.Operation as O
 use Rattle.steps.specs.Recovery.{recoveryPlan}
-
-pub step-number : (p : Place) (r s : ℕ) → r ≡ stepNumber p → s ≡ stepNumber p → r ≡ s
-step-number p r s = coincide
 
 pub planned : (e : Effect) (n : Next) (r s : Plan) → r ≡ P.planned e n → s ≡ P.planned e n → r ≡ s
 planned e n r s = coincide

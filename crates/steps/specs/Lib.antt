@@ -1,4 +1,3 @@
-pub mod Place
 pub mod Plan
 pub mod Operation
 pub mod Recovery

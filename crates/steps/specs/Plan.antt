@@ -13,7 +13,6 @@ use Rattle.steps.specs.declared.Effect.{Effect}
 use Rattle.steps.specs.declared.Effect.the-variants.{Nothing, StoreWord, BackWord}
 use Rattle.steps.specs.declared.Next.{Next}
 use Rattle.steps.specs.declared.Plan.{Plan}
-use Rattle.steps.specs.declared.ReadNext.{ReadNext}
 use Rattle.steps.specs.declared.ReadNext.the-variants.{Meet, Clear, Value}
 use Rattle.steps.specs.declared.ReadPlan.{ReadPlan}
 

@@ -21,8 +21,6 @@ pub use recovery::recovery_plan;
 use word::Outcome;
 use word::Sort;
 use word::Status;
-ghost use mathlib.Core.Path.{_≡_};
-ghost use Rattle.steps.specs.Place.{stepNumber};
 
 // A place in the steps of an operation: which step is next. Its first number is the entry, counted from 0. What the step does, and
 // its tests, are in specs/Operation.antt.
@@ -145,27 +143,4 @@ pub struct ReadPlan {
 pub struct RecoveryPlan {
     pub effect: Effect,
     pub next: More,
-}
-
-// The number of the step, 1 to 7, that a place belongs to.
-pub fn step_number(p: Place) -> u64
-    ensures { λ r. ⌜ r ≡ stepNumber p ⌝ }
-{
-    match p {
-        Place::BackBody => 1,
-        Place::StoreUndecided => 1,
-        Place::BackUndecided => 1,
-        Place::Install(_) => 2,
-        Place::InstallClear(_, _) => 2,
-        Place::Persist(_) => 3,
-        Place::PersistClear(_) => 3,
-        Place::Decide(_) => 4,
-        Place::Settle => 5,
-        Place::SettleClear => 5,
-        Place::Swap(_) => 6,
-        Place::SwapBack(_) => 6,
-        Place::SwapClear(_) => 6,
-        Place::StoreFree => 7,
-        Place::BackFree(_) => 7,
-    }
 }

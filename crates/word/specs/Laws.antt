@@ -1,7 +1,7 @@
 -- Sorting and making are each other's inverse, and clearing the dirty bit changes nothing else.
 use mathlib.Core.Path.{_≡_, refl, sym, ap, _∙_}
 use mathlib.Core.Bool.{Bool, true, false}
-use Prim.Native.Nat.{ℕ, _+_, _*_, _/_, _%_, _^_, _<_}
+use Prim.Native.Nat.{ℕ, _+_, _%_, _^_, _<_}
 use native.Mathlib.Omega.{arith}
 use Rattle.word.specs.declared.Sort.{Sort}
 use Rattle.word.specs.declared.Sort.the-variants.{Plain, Pointer, Neither}

@@ -1,7 +1,7 @@
 -- The status of a descriptor: 0 Free, 1 Undecided, 2 Succeeded, 3 Failed; bit 63 dirty is allowed on 2 and 3 only
 -- (document 01, "What the memory holds").
 use Prim.Native.Nat.{ℕ, _/_, _%_, _^_}
-use mathlib.Core.Bool.{Bool, true, false, cond, not}
+use mathlib.Core.Bool.{false, cond, not}
 use lib.Dec.{eqb}
 use Rattle.word.specs.declared.Outcome.{Outcome}
 use Rattle.word.specs.declared.Outcome.the-variants.{Succeeded, Failed}

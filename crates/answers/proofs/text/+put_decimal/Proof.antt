@@ -25,132 +25,88 @@ put-decimal-below t =
 put-decimal-put-short-requires : (t : ℕ) → put-decimal-lts.Need-put-short-requires (
   put-short-reads.Asked,
   put-short-reads.Learnt,
-  put-four-reads.Asked,
-  put-four-reads.Learnt,
   put-decimal-below t,
   put-decimal.Post,
+  put-four-reads.Asked,
+  put-four-reads.Learnt,
 ) (put-decimal-at t) put-decimal.Post
 put-decimal-put-short-requires t c κs = search needs
 
 put-decimal-same-length : (t : ℕ) → put-decimal-lts.Need-same-length (
   put-short-reads.Asked,
   put-short-reads.Learnt,
-  put-four-reads.Asked,
-  put-four-reads.Learnt,
   put-decimal-below t,
   put-decimal.Post,
+  put-four-reads.Asked,
+  put-four-reads.Learnt,
 ) (put-decimal-at t) put-decimal.Post
 put-decimal-same-length t c = search needs
 
 put-decimal-returns : (t : ℕ) → put-decimal-lts.Need-returns (
   put-short-reads.Asked,
   put-short-reads.Learnt,
-  put-four-reads.Asked,
-  put-four-reads.Learnt,
   put-decimal-below t,
   put-decimal.Post,
+  put-four-reads.Asked,
+  put-four-reads.Learnt,
 ) (put-decimal-at t) put-decimal.Post
 put-decimal-returns t c = search needs
 
-put-decimal-put-short-requires-2 : (t : ℕ) → put-decimal-lts.Need-put-short-requires-2 (
+put-decimal-put-decimal-requires : (t : ℕ) → put-decimal-lts.Need-put-decimal-requires (
   put-short-reads.Asked,
   put-short-reads.Learnt,
-  put-four-reads.Asked,
-  put-four-reads.Learnt,
   put-decimal-below t,
   put-decimal.Post,
+  put-four-reads.Asked,
+  put-four-reads.Learnt,
 ) (put-decimal-at t) put-decimal.Post
-put-decimal-put-short-requires-2 t c κs = search needs
+put-decimal-put-decimal-requires t c κs = search needs
 
 put-decimal-put-four-requires : (t : ℕ) → put-decimal-lts.Need-put-four-requires (
   put-short-reads.Asked,
   put-short-reads.Learnt,
-  put-four-reads.Asked,
-  put-four-reads.Learnt,
   put-decimal-below t,
   put-decimal.Post,
+  put-four-reads.Asked,
+  put-four-reads.Learnt,
 ) (put-decimal-at t) put-decimal.Post
 put-decimal-put-four-requires t c κs = search needs
 
 put-decimal-same-length-2 : (t : ℕ) → put-decimal-lts.Need-same-length-2 (
   put-short-reads.Asked,
   put-short-reads.Learnt,
-  put-four-reads.Asked,
-  put-four-reads.Learnt,
   put-decimal-below t,
   put-decimal.Post,
+  put-four-reads.Asked,
+  put-four-reads.Learnt,
 ) (put-decimal-at t) put-decimal.Post
 put-decimal-same-length-2 t c = search needs
 
 put-decimal-returns-2 : (t : ℕ) → put-decimal-lts.Need-returns-2 (
   put-short-reads.Asked,
   put-short-reads.Learnt,
-  put-four-reads.Asked,
-  put-four-reads.Learnt,
   put-decimal-below t,
   put-decimal.Post,
+  put-four-reads.Asked,
+  put-four-reads.Learnt,
 ) (put-decimal-at t) put-decimal.Post
 put-decimal-returns-2 t c = search (needs, groups)
-
-put-decimal-put-decimal-requires : (t : ℕ) → put-decimal-lts.Need-put-decimal-requires (
-  put-short-reads.Asked,
-  put-short-reads.Learnt,
-  put-four-reads.Asked,
-  put-four-reads.Learnt,
-  put-decimal-below t,
-  put-decimal.Post,
-) (put-decimal-at t) put-decimal.Post
-put-decimal-put-decimal-requires t c κs = search needs
-
-put-decimal-put-four-requires-2 : (t : ℕ) → put-decimal-lts.Need-put-four-requires-2 (
-  put-short-reads.Asked,
-  put-short-reads.Learnt,
-  put-four-reads.Asked,
-  put-four-reads.Learnt,
-  put-decimal-below t,
-  put-decimal.Post,
-) (put-decimal-at t) put-decimal.Post
-put-decimal-put-four-requires-2 t c κs = search needs
-
-put-decimal-same-length-3 : (t : ℕ) → put-decimal-lts.Need-same-length-3 (
-  put-short-reads.Asked,
-  put-short-reads.Learnt,
-  put-four-reads.Asked,
-  put-four-reads.Learnt,
-  put-decimal-below t,
-  put-decimal.Post,
-) (put-decimal-at t) put-decimal.Post
-put-decimal-same-length-3 t c = search needs
-
-put-decimal-returns-3 : (t : ℕ) → put-decimal-lts.Need-returns-3 (
-  put-short-reads.Asked,
-  put-short-reads.Learnt,
-  put-four-reads.Asked,
-  put-four-reads.Learnt,
-  put-decimal-below t,
-  put-decimal.Post,
-) (put-decimal-at t) put-decimal.Post
-put-decimal-returns-3 t c = search (needs, groups)
 
 pub +put-decimal-spec : {M : Type 1} → statement M
 +put-decimal-spec = close μ-put-decimal λ t. put-decimal-lts.spec (
   put-short-reads.Asked,
   put-short-reads.Learnt,
-  put-four-reads.Asked,
-  put-four-reads.Learnt,
   put-decimal-below t,
   put-decimal.Post,
+  put-four-reads.Asked,
+  put-four-reads.Learnt,
 )
     (put-decimal-at t)
     put-decimal.Post
     (put-decimal-put-short-requires t)
     (put-decimal-same-length t)
     (put-decimal-returns t)
-    (put-decimal-put-short-requires-2 t)
+    (put-decimal-put-decimal-requires t)
     (put-decimal-put-four-requires t)
     (put-decimal-same-length-2 t)
     (put-decimal-returns-2 t)
-    (put-decimal-put-decimal-requires t)
-    (put-decimal-put-four-requires-2 t)
-    (put-decimal-same-length-3 t)
-    (put-decimal-returns-3 t)

@@ -1,8 +1,7 @@
 use mathlib.Core.Path.{_≡_, refl}
-use Prim.Native.Nat.{_≤_, _<_, _+_, _-_, _^_}
+use Prim.Native.Nat.{_-_}
 use Rattle.events.specs.Build.{inserted}
 use borrow.Author.Needs.{needs}
-use native.Mathlib.Omega.{arith}
 use Rattle.events.proofs.BuildLaws.{insert-here, insert-up, insert-first}
 use Rattle.events.proofs.build.insert.Statement.{statement}
 use Rattle.events.proofs.build.insert.Tie as tie

@@ -1,5 +1,5 @@
 use mathlib.Core.Path.{_≡_, refl}
-use Prim.Native.Nat.{_≤_, _<_, _+_, _-_, _^_}
+use Prim.Native.Nat.{_≤_, _-_}
 use Rattle.memory.specs.declared.Found.the-variants.{Missing}
 use Rattle.events.specs.Build.{lowestBelow}
 use borrow.Author.Needs.{needs}

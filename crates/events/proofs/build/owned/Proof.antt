@@ -1,5 +1,5 @@
 use mathlib.Core.Path.{_≡_, refl}
-use Prim.Native.Nat.{_≤_, _<_, _+_, _-_, _^_}
+use Prim.Native.Nat.{_≤_, _-_}
 use mathlib.Core.Bool.{false}
 use Rattle.events.specs.Build.{ownedBelow}
 use borrow.Author.Needs.{needs}

@@ -30,8 +30,8 @@ returns-3 c = search (needs, refuse-body)
 claimed-requires : tie.Need-claimed-requires
 claimed-requires c κs = (search needs, search (needs, no-body))
 
-markeds-bad-requires : tie.Need-markeds-bad-requires
-markeds-bad-requires c κs = search needs
+marked-words-bad-requires : tie.Need-marked-words-bad-requires
+marked-words-bad-requires c κs = search needs
 
 words-bad-requires : tie.Need-words-bad-requires
 words-bad-requires c κs = search needs
@@ -58,7 +58,7 @@ content-refusal-spec =
     returns-2
     returns-3
     claimed-requires
-    markeds-bad-requires
+    marked-words-bad-requires
     words-bad-requires
     returns-4
     returns-5

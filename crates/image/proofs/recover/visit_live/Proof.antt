@@ -70,8 +70,8 @@ add-read-u64-2 c = search needs
 read-u64-requires-3 : tie.Need-read-u64-requires-3 Inv-loop μ-loop
 read-u64-requires-3 c κs = search needs
 
-settle-requires : tie.Need-settle-requires Inv-loop μ-loop
-settle-requires c κs = (search (needs, address-fits), (search needs, search (needs, value-fits)))
+replace-requires : tie.Need-replace-requires Inv-loop μ-loop
+replace-requires c κs = (search (needs, address-fits), (search needs, search (needs, value-fits)))
 
 sub-left : tie.Need-sub-left Inv-loop μ-loop
 sub-left c = search needs
@@ -93,8 +93,8 @@ loop-less c = search needs
 
 loop-again : tie.Need-loop-again Inv-loop μ-loop
 loop-again c =
-    let settle = c .before .before .before in
-    let read = settle .before .before in
+    let replace = c .before .before .before in
+    let read = replace .before .before in
     let test = read .before .before .before .before in
     let turn = test .before in
     let head = turn .before in
@@ -105,7 +105,7 @@ loop-again c =
     (read .before .read-u642 .ensures)
     (value .value-place .ensures .0)
     (read .read-u643 .ensures)
-    (settle .settle .ensures)
+    (replace .replace .ensures)
 
 free-requires : tie.Need-free-requires Inv-loop μ-loop
 free-requires c κs = search needs
@@ -142,7 +142,7 @@ visit-live-spec =
     read-u64-requires-2
     add-read-u64-2
     read-u64-requires-3
-    settle-requires
+    replace-requires
     sub-left
     same-length-2
     returns-2

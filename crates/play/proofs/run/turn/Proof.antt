@@ -18,6 +18,9 @@ turn-at-requires-2 c κs = search needs
 enum-told-3 : tie.Need-enum-told-3
 enum-told-3 c = search needs
 
+stays-requires : tie.Need-stays-requires
+stays-requires c κs = search needs
+
 same-length : tie.Need-same-length
 same-length c = search needs
 
@@ -42,6 +45,7 @@ turn-spec =
     enum-told-2
     turn-at-requires-2
     enum-told-3
+    stays-requires
     same-length
     returns
     same-length-2

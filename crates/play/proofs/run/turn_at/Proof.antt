@@ -36,8 +36,14 @@ refused-turn-requires c κs = search needs
 enum-told-2 : tie.Need-enum-told-2
 enum-told-2 c = search needs
 
+stays-requires : tie.Need-stays-requires
+stays-requires c κs = search needs
+
 enum-told-3 : tie.Need-enum-told-3
 enum-told-3 c = search needs
+
+stays-requires-2 : tie.Need-stays-requires-2
+stays-requires-2 c κs = search needs
 
 same-length : tie.Need-same-length
 same-length c = search needs
@@ -70,7 +76,9 @@ turn-at-spec =
     enum-told
     refused-turn-requires
     enum-told-2
+    stays-requires
     enum-told-3
+    stays-requires-2
     same-length
     returns
     same-length-2

@@ -4,14 +4,14 @@ use Prim.Native.Nat.{_≤_, _-_}
 use native.Mathlib.Omega.{arith}
 use Rattle.image.specs.Check.{someBelow}
 use Rattle.image.specs.CheckLaws.{below-none}
-use Rattle.image.specs.Claims.{badMarkeds}
+use Rattle.image.specs.Claims.{badMarkedWords}
 use Rattle.image.proofs.ImageLaws.{marked-found, marked-next}
 use borrow.Author.Needs.{needs}
-use Rattle.image.proofs.check.markeds_bad.Statement.{statement}
-use Rattle.image.proofs.check.markeds_bad.Tie as tie
+use Rattle.image.proofs.check.marked_words_bad.Statement.{statement}
+use Rattle.image.proofs.check.marked_words_bad.Tie as tie
 
 abbrev Inv-loop : tie.InvT-loop
-Inv-loop n image marks a₀ a = (badMarkeds a image marks ≡ false) × (a ≤ n)
+Inv-loop n image marks a₀ a = (badMarkedWords a image marks ≡ false) × (a ≤ n)
 
 abbrev μ-loop : tie.MeasureT-loop
 μ-loop n image marks a₀ a = n - a
@@ -50,8 +50,8 @@ loop-again c = (search (needs, marked-next), omega arith)
 returns-2 : tie.Need-returns-2 Inv-loop μ-loop
 returns-2 c = search (needs, below-none)
 
-pub markeds-bad-spec : {M : Type 1} → statement M
-markeds-bad-spec =
+pub marked-words-bad-spec : {M : Type 1} → statement M
+marked-words-bad-spec =
     tie.close
     (tie.spec
     Inv-loop

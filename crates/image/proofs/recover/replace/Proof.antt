@@ -1,7 +1,7 @@
-use Rattle.image.proofs.VisitLaws.{settle-there, settle-else}
+use Rattle.image.proofs.VisitLaws.{replace-there, replace-else}
 use borrow.Author.Needs.{needs}
-use Rattle.image.proofs.recover.settle.Statement.{statement}
-use Rattle.image.proofs.recover.settle.Tie as tie
+use Rattle.image.proofs.recover.replace.Statement.{statement}
+use Rattle.image.proofs.recover.replace.Tie as tie
 
 points-to-requires : tie.Need-points-to-requires
 points-to-requires c κs = search needs
@@ -16,16 +16,16 @@ same-length : tie.Need-same-length
 same-length c = search needs
 
 returns : tie.Need-returns
-returns c = search (needs, settle-there)
+returns c = search (needs, replace-there)
 
 same-length-2 : tie.Need-same-length-2
 same-length-2 c = search needs
 
 returns-2 : tie.Need-returns-2
-returns-2 c = search (needs, settle-else)
+returns-2 c = search (needs, replace-else)
 
-pub settle-spec : {M : Type 1} → statement M
-settle-spec =
+pub replace-spec : {M : Type 1} → statement M
+replace-spec =
     tie.close
     (tie.spec
     points-to-requires
