@@ -61,4 +61,9 @@ cmp -s build/bench.out build/bench.ours || {
 records=$(($(wc -l <build/bench.out) - 1))
 echo "tick: $records records, $(tenths $((ours * 10 / records))) ns a record; the model in C, gcc -O2: $(tenths $((model * 10 / records))) ns; ratio $(awk "BEGIN { printf \"%.2f\", $ours / $model }") of the best, $middle in the middle of 21 rounds"
 
-rt staticlib image >build/staticlib.log 2>&1 && sh tests/model/build.sh && build/model/bench_images
+rt staticlib image >build/staticlib.log 2>&1 || {
+    tail -n 5 build/staticlib.log
+    echo "recovery: not timed, its archive could not be built"
+    exit 1
+}
+sh tests/model/build.sh && build/model/bench_images

@@ -1,9 +1,18 @@
 #!/bin/sh
 # soak.sh FROM TO [JOBS]: random schedules beside the model, seed by seed, on all cores; for each seed of a schedule a hundred random images too.
-# Exit status: 0 all the same, 1 something differs (the seed is named), 2 it could not be run.
+# Exit status: 0 all the same, 1 something differs (the first seeds of a part that do are named), 2 it could not be run.
 from=${1:?from which seed} to=${2:?to which seed}
 jobs=${3:-$(nproc 2>/dev/null || echo 1)}
 part=500
+
+for number in "$from" "$to" "$jobs"; do
+    case $number in
+    '' | 0 | *[!0-9]*)
+        echo "soak: '$number' is no number from 1 on" >&2
+        exit 2
+        ;;
+    esac
+done
 
 if [ "${SOAK_PART-}" = yes ]; then
     # one part, called by xargs below: its first seed is $3, its lines go out at once
@@ -14,12 +23,12 @@ if [ "${SOAK_PART-}" = yes ]; then
         lines="$lines
 $(build/model/compare_images $(($3 * 100)) $((last * 100 + 99)) 2>&1)" || bad=yes
     fi
-    echo "$lines"
+    echo "$lines" || bad=yes
     [ "${bad-}" != yes ]
     exit
 fi
 
-[ "$from" -le "$to" ] 2>/dev/null || {
+[ "$from" -le "$to" ] || {
     echo "soak: no seeds from '$from' to '$to'" >&2
     exit 2
 }
@@ -34,11 +43,19 @@ command -v gcc >/dev/null 2>&1 || {
     exit 2
 }
 sh tests/model/build.sh || exit 2
-[ -x build/model/compare_images ] || echo "soak: without images; 'rt staticlib image' makes what they need"
+parts=$(seq "$from" $part "$to" | wc -l)
+wanted=$parts
+if [ -x build/model/compare_images ]; then
+    wanted=$((2 * parts))
+else
+    echo "soak: without images; 'rt staticlib image' makes what they need"
+fi
 mkdir -p build
-# a part that fails makes xargs end with a status that is not 0, when all parts are done
+# a part that fails makes xargs end with 123, when all parts are done; more than that is xargs' own
 seq "$from" $part "$to" | SOAK_PART=yes xargs -P "$jobs" -n 1 sh tests/soak.sh "$from" "$to" >build/soak.log
 status=$?
 grep -v ' 0 differ' build/soak.log | head -n 20
-echo "soak: seeds $from to $to on $jobs cores, $(grep -c '^model: .* 0 differ' build/soak.log) of $(seq "$from" $part "$to" | wc -l) parts the same; build/soak.log has each"
-[ $status = 0 ] || exit 1
+same=$(grep -c '^[a-z]*: .* 0 differ' build/soak.log)
+echo "soak: seeds $from to $to on $jobs cores, $parts parts, $same of $wanted comparisons the same; build/soak.log has each"
+[ $status -le 123 ] || exit 2
+[ $status = 0 ] && [ "$same" = "$wanted" ] || exit 1

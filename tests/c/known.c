@@ -117,9 +117,13 @@ static void known_runs(void)
     swap_of_one(&m, 1);
     want("run (b)", &m, 4, PMWCAS_COMPLETE, 4);
     say("run (b), value", get(word(&m, 0)) == 0);
-    swap_of_one(&m, 2);
-    want("run (c), the dirty bit cleared", &m, 4, PMWCAS_COMPLETE, 4);
+    /* run (c) leaves in persisted memory what run (a) leaves */
+    swap_of_one(&m, DIRTY | 2);
+    want("run (c)", &m, 4, PMWCAS_COMPLETE, 4);
     say("run (c), value", get(word(&m, 0)) == 5);
+    swap_of_one(&m, 2);
+    want("a clean Succeeded", &m, 4, PMWCAS_COMPLETE, 4);
+    say("a clean Succeeded, value", get(word(&m, 0)) == 5);
     fresh(&m, 1, 1);
     want("a fresh memory", &m, 160, PMWCAS_COMPLETE, 1);
     fresh(&m, 64, 16);

@@ -9,6 +9,11 @@ for log in target/must-fail/*/*/.log; do
         echo "edit $name: refused only because the proof file no longer fits the code"
         bad=1
     fi
+    # in the words that the checker has for a fact that fails; should it take others, this tells
+    if ! grep -q -e 'no proof of' -e 'does not follow' -e 'the two types' -e 'the two sides' -e 'the two indices' -e 'missing equation' -e 'give a proof of that' "$log"; then
+        echo "edit $name: its log names no fact that fails"
+        bad=1
+    fi
 done
 edits=$(find crates/*/must-fail -name '*.edit' | wc -l)
 logs=$(find target/must-fail -name .log | wc -l)

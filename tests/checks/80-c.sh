@@ -31,7 +31,7 @@ try() {
 
 strict='-std=c99 -Wall -Wextra -Wpedantic -Iinclude'
 try "known answers" gcc $strict -O2 tests/c/known.c $archive
-try "known answers, sanitized" gcc $strict -g -fsanitize=address,undefined tests/c/known.c $archive
+try "known answers, sanitized" gcc $strict -g -fsanitize=address,undefined -fno-sanitize-recover=all tests/c/known.c $archive
 try "a status compared for equality" gcc $strict -O2 tests/c/equality.c $archive
 if command -v g++ >/dev/null 2>&1; then
     try "known answers, C++" g++ -Wall -Wextra -Iinclude -x c++ tests/c/known.c -x none $archive
@@ -43,4 +43,14 @@ else
 fi
 DESTDIR='' sh tools/install.sh $work/prefix >$work/installed || bad=1
 try "installed" gcc -std=c99 -Wall -Wextra -O2 tests/c/known.c -I$work/prefix/include -L$work/prefix/lib -lpmwcas_recovery
+# README's own commands
+if command -v pkg-config >/dev/null 2>&1; then
+    words=$(PKG_CONFIG_PATH=$work/prefix/lib/pkgconfig pkg-config --cflags --libs pmwcas_recovery) || bad=1
+    try "pkg-config" gcc -Wall -Wextra tests/c/known.c $words
+    if command -v gfortran >/dev/null 2>&1; then
+        try "pkg-config, Fortran" gfortran -J $work $work/prefix/share/pmwcas_recovery/pmwcas_recovery.f90 tests/fortran/save_block.f90 $words
+    fi
+else
+    echo "c: pkg-config is not tried, it is not here"
+fi
 exit $bad

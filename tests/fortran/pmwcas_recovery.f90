@@ -23,6 +23,7 @@ module pmwcas_recovery
     integer(c_int64_t) :: steps
   end type recovery
 
+  ! image: the words and descriptors as 64-bit integers of a little-endian machine; length: in bytes, 8*n + 112*k. The C header says the rest.
   interface
     function pmwcas_recover(n, k, image, length, allowance) bind(c, name='pmwcas_recover') result(r)
       import :: c_int64_t, c_size_t, recovery

@@ -64,12 +64,6 @@ pub status-of-not-a-dirty-undecided : Undecided ≢ statusOf (2 ^ 63 + 1)
 unfolding statusOf
 status-of-not-a-dirty-undecided e = let z : Undecided ≡ Bad (2 ^ 63 + 1) = e in clash (cc)
 
-pub outcome-number-not-3-always : 3 ≢ outcomeNumber Succeeded
-outcome-number-not-3-always e = omega arith
-
-pub outcome-number-not-2-always : 2 ≢ outcomeNumber Failed
-outcome-number-not-2-always e = omega arith
-
 pub status-number-not-without-the-mark : (o : Outcome) → outcomeNumber o ≢ statusNumber (Decided o true)
 status-number-not-without-the-mark Succeeded e = omega arith
 status-number-not-without-the-mark Failed e = omega arith

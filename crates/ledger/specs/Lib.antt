@@ -48,6 +48,8 @@ pub mod Once
 pub mod Last
 pub mod Answers
 pub mod ReadCourse
+pub mod ReadBegun
+pub mod Behind
 pub mod Demand
 pub mod Small
 pub mod SmallKept
@@ -63,8 +65,6 @@ pub mod OverBytes
 pub mod Lines
 pub mod Out
 pub mod Setup
-pub mod ReadBegun
-pub mod Behind
 pub mod Places
 pub mod LastLine
 pub mod BytesDemand

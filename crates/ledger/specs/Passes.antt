@@ -1,6 +1,6 @@
 -- "Every persisted image the machine reaches passes" (document 01, "Images for the C runtime"): at every moment of every history, no check of `image` refuses the
--- image of persisted memory. 21 and 23 hold as all numbers are in range; 22 as a descriptor that is live in persisted memory has there the body that was
--- submitted, which was written back before the status was; 24 as a pointer's descriptor is live in persisted memory and has the address there.
+-- image of persisted memory. Not 21 nor 23, as all numbers are in range; not 22, as a descriptor that is live in persisted memory has there the body that was
+-- submitted, which was written back before the status was; not 24, as a pointer's descriptor is live in persisted memory and has the address there.
 use mathlib.Core.Path.{_≡_, refl, sym, ap, _∙_}
 use mathlib.Core.Logic.{_≢_}
 use mathlib.Core.Bool.{Bool, true, false, not, _&&_, _||_}

@@ -1,4 +1,4 @@
--- Recovery takes at most 160 steps: the statement of `RecoverySteps`. After the crash at most 160 steps are left (`StepsLeft`), and each that is taken is one of them.
+-- The statements of `RecoverySteps`: recovery takes at most 160 steps, and exactly those that the crash left to be done. Each step that is taken is one of those that are left (`StepsLeft`).
 use mathlib.Core.Path.{_≡_, refl, ap, _∙_}
 use mathlib.Core.List.{List}
 use Prim.Native.Nat.{ℕ, zero, suc, _+_, _<_, _≤_}
@@ -19,13 +19,14 @@ use Rattle.machine.specs.Apply.{applyOf}
 use Rattle.image.specs.Machine.{crash-begins}
 use Rattle.ledger.specs.Statement.{memoryAt, Happens}
 use Rattle.ledger.specs.View.{cellsOf}
+use Rattle.ledger.specs.Seen.{body-length}
 use Rattle.ledger.specs.History.{memory-next, memory-past, memory-whole, event-turns}
 use Rattle.ledger.specs.Instant.{inv}
 use Rattle.ledger.specs.Ranges.{ranges}
 use Rattle.ledger.specs.Small.{Small, small-fits}
 use Rattle.ledger.specs.SmallKept.{always-small}
-use Rattle.ledger.specs.RecoverySteps.{stepAt, stepsAmong, AtMost160}
-use Rattle.ledger.specs.StepsLeft.{stepsLeft, left-most, turn-left}
+use Rattle.ledger.specs.RecoverySteps.{stepAt, stepsAmong, stepsOf, AtMost160, Exactly}
+use Rattle.ledger.specs.StepsLeft.{stepsFrom, stepsLeft, first-left, outside-left, none-left, left-most, turn-left}
 
 -- a crash is never refused
 crash-ok : (m : Block) → applyOf m Crash .answer ≡ Ok
@@ -35,6 +36,11 @@ crash-ok m = refl
 crash-place : (m : Block) → Whole m → Small m → recoveryIn (applyOf m Crash .memory) ≡ At 0 0
 unfolding applyOf refusalOf firstOf
 crash-place m h s = crash-begins m h (small-fits Persisted m s) .place
+
+from-cells : (j : ℕ) (m : Block) (d : ℕ) → stepsFrom j (cellsOf m) d ≡ stepsOf j m d
+unfolding stepsFrom stepsOf
+from-cells zero m d = refl
+from-cells (suc j) m d = rw (body-length Persisted m d, from-cells j m (suc d))
 
 module _ (n k w : ℕ) (nn : n ≤ 64) (kk : k ≤ 16) (ww : w ≤ 8) (kp : 0 < k) (es : List Event) where
   abbrev m : ℕ → Block
@@ -65,8 +71,11 @@ module _ (n k w : ℕ) (nn : n ≤ 64) (kk : k ≤ 16) (ww : w ≤ 8) (kp : 0 < 
       rw z (omega arith)
 
   -- a crash begins recovery at descriptor 0
-  crash-left : (i : ℕ) → Happens n k w es i Crash Ok → leftAt (suc i) ≤ 160
-  crash-left i h = rw place (left-most n k (cellsOf (m (suc i))) (inv n k w nn kk ww kp es (suc i) .fits) kp kk)
+  crash-left : (i : ℕ) → Happens n k w es i Crash Ok → (leftAt (suc i) ≤ 160) × (leftAt (suc i) ≡ stepsOf k (m (suc i)) 0)
+  crash-left i h = (
+    rw place (left-most n k (cellsOf (m (suc i))) (inv n k w nn kk ww kp es (suc i) .fits) kp kk),
+    ap (stepsLeft k (cellsOf (m (suc i)))) place ∙ first-left k (cellsOf (m (suc i))) kp ∙ from-cells k (m (suc i)) 0,
+  )
     where
       place : recoveryIn (m (suc i)) ≡ At 0 0
       place = ap recoveryIn (memory-next n k w es i (h .there) ∙ ap (λ (e : Event). applyOf (m i) e .memory) (h .event)) ∙ crash-place (m i) (memory-whole n k w es i) (always-small n k w nn kk ww kp es i)
@@ -74,6 +83,16 @@ module _ (n k w : ℕ) (nn : n ≤ 64) (kk : k ≤ 16) (ww : w ≤ 8) (kp : 0 < 
 pub at-most-160 : AtMost160
 at-most-160 n k w e es i j h q =
     let r = ranges n k w e in
-    let c = crash-left n k w (r .words) (r .descriptors) (r .workers) (r .some) es i h in
+    let c = crash-left n k w (r .words) (r .descriptors) (r .workers) (r .some) es i h .0 in
     let d = all-left n k w (r .words) (r .descriptors) (r .workers) (r .some) es (suc i) j (λ t l m. q t (omega arith) (omega arith)) in
     omega arith
+
+pub exactly : Exactly
+exactly n k w e es i j h q =
+    let r = ranges n k w e in
+    let c = crash-left n k w (r .words) (r .descriptors) (r .workers) (r .some) es i h .1 in
+    let d = all-left n k w (r .words) (r .descriptors) (r .workers) (r .some) es (suc i) j (λ t l m. q t (omega arith) (omega arith)) in
+    let I = inv n k w (r .words) (r .descriptors) (r .workers) (r .some) es (suc i + j) in (
+      λ o. let z = outside-left k (cellsOf (memoryAt n k w es (suc i + j))) (recoveryIn (memoryAt n k w es (suc i + j))) o in omega arith,
+      λ s. none-left n k I (recoveryIn (memoryAt n k w es (suc i + j))) (I .place) (omega arith),
+    )

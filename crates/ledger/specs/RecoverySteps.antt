@@ -1,11 +1,17 @@
--- RECOVERY TAKES "AT MOST 160" STEPS "IN ALL" (document 01, "The steps of an operation d"), stated of the machine: of the events after a crash and before the next one,
--- whatever write-backs and refused events stand between, at most 160 are steps of recovery that are taken.
+-- RECOVERY TAKES "2c+2 STEPS FOR COUNT c, AT MOST 160 IN ALL" (document 01, "The steps of an operation d"), stated of the machine: of the events after a crash and before the next one,
+-- whatever write-backs and refused events stand between, at most 160 are steps of recovery that are taken; and recovery is over exactly when all have been taken that the crash left to be done.
 use mathlib.Core.Path.{_≡_}
 use mathlib.Core.Bool.{true, cond}
 use mathlib.Core.List.{List}
-use Prim.Native.Nat.{ℕ, zero, suc, _+_, _<_, _≤_}
+use Prim.Native.Nat.{ℕ, zero, suc, _+_, _*_, _<_, _≤_}
 use lib.Dec.{ltb}
 use lib.ListN.{length, getD}
+use Rattle.word.specs.declared.Status.{Status}
+use Rattle.steps.specs.declared.RecoveryPlace.the-variants.{Outside}
+use Rattle.steps.specs.Plan.{isFree}
+use Rattle.memory.specs.declared.Copy.the-variants.{Persisted}
+use Rattle.memory.specs.Block.{Block}
+use Rattle.memory.specs.Content.{statusIn, countIn, recoveryIn}
 use Rattle.memory.specs.Fresh.{goodSizes}
 use Rattle.events.specs.declared.Event.{Event}
 use Rattle.events.specs.declared.Event.the-variants.{Crash}
@@ -36,7 +42,22 @@ module _ (n k w : ℕ) (es : List Event) where
   stepsAmong i zero = 0
   stepsAmong i (suc j) = stepsAmong i j + stepAt (i + j)
 
+-- what a crash leaves to be done: "Free: one step", else "2c+2 steps for count c"; of j descriptors from d on, by persisted statuses and counts
+abbrev pub stepsFor : Status → ℕ → ℕ
+stepsFor s c = cond (isFree s) 1 (2 * c + 2)
+
+unfoldable pub stepsOf : ℕ → Block → ℕ → ℕ
+stepsOf zero m d = 0
+stepsOf (suc j) m d = stepsFor (statusIn Persisted m d) (countIn Persisted m d) + stepsOf j m (suc d)
+
 -- event i is a crash, and none of the j events after it is one: at most 160 of them are steps of recovery that are taken
 abbrev pub AtMost160 : Type 0
 AtMost160 = (n k w : ℕ) → goodSizes n k w ≡ true → (es : List Event) (i j : ℕ) → Happens n k w es i Crash Ok
     → ((t : ℕ) → i < t → t ≤ i + j → ¬ (Happens n k w es t Crash Ok)) → stepsAmong n k w es (suc i) j ≤ 160
+
+-- the same; then recovery is outside where, and only where, all those steps have been taken
+abbrev pub Exactly : Type 0
+Exactly = (n k w : ℕ) → goodSizes n k w ≡ true → (es : List Event) (i j : ℕ) → Happens n k w es i Crash Ok
+    → ((t : ℕ) → i < t → t ≤ i + j → ¬ (Happens n k w es t Crash Ok))
+    → (recoveryIn (memoryAt n k w es (suc i + j)) ≡ Outside → stepsAmong n k w es (suc i) j ≡ stepsOf k (memoryAt n k w es (suc i)) 0)
+    × (stepsAmong n k w es (suc i) j ≡ stepsOf k (memoryAt n k w es (suc i)) 0 → recoveryIn (memoryAt n k w es (suc i + j)) ≡ Outside)

@@ -1,4 +1,4 @@
--- The rules that the ledger runs: the very definitions of `steps` that the machine runs. The other files of this crate take them from here and from nowhere else. Wrong.antt has rules with a fault
+-- The rules that the ledger runs: the very definitions of `steps` that the machine runs. The other files of this crate take a step's clauses and plans from here alone; the tests of a word and the value that is left, of which clauses are made, they also take from `steps`. Wrong.antt has rules with a fault
 -- each; an edit of must-fail/ puts one of them here, in place of ours.
 
 -- 2.

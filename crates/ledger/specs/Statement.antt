@@ -93,6 +93,7 @@ module _ (n k w : ℕ) (es : List Event) where
     -- the ledger changes only at an instant, then by all the desired values of that one operation at once
     pub still : (i : ℕ) → ((d : ℕ) → d < k → enters i d ≡ false) → (a : ℕ) → ledger (suc i) a ≡ ledger i a
     pub by-one : (i d : ℕ) → enters i d ≡ true → (a : ℕ) → ledger (suc i) a ≡ entered (memoryAt i) d (ledger i) a
+    pub alone : (i d e : ℕ) → enters i d ≡ true → enters i e ≡ true → d ≡ e
     -- at that instant it holds all its expected values
     pub expected : (i d j : ℕ) → enters i d ≡ true → j < countIn Persisted (memoryAt i) d
         → ledger i (entryIn Persisted (memoryAt i) d j .address) ≡ entryIn Persisted (memoryAt i) d j .expected
@@ -110,6 +111,9 @@ module _ (n k w : ℕ) (es : List Event) where
     pub failure : (s v d i : ℕ) → Operation s v d i → Happens i (Step v) (Answered Failed) → (t : ℕ) → s ≤ t → t ≤ i → enters t d ≡ false
     pub differed : (s v d i : ℕ) → Operation s v d i → Happens i (Step v) (Answered Failed)
         → (t : ℕ) × (s < t) × (t ≤ i) × (e : Entry) × Has s d e × (ledger t (e .address) ≢ e .expected)
+    -- behind every answer S or F there is such an operation, and behind every answer V a read
+    pub behind : (i v : ℕ) (o : Outcome) → Happens i (Step v) (Answered o) → (s : ℕ) × (d : ℕ) × Operation s v d i
+    pub begun : (i v x : ℕ) → Happens i (Step v) (Shows x) → (s : ℕ) × (a : ℕ) × Happens s (Read v a) Ok × Runs v s i
     -- a read's answer V x was the ledger's value of that address at some moment from the read's beginning to its answer
     pub read : (s v a i x : ℕ) → Happens s (Read v a) Ok → Runs v s i → Happens i (Step v) (Shows x) → (t : ℕ) × (s < t) × (t ≤ i) × (ledger t a ≡ x)
 

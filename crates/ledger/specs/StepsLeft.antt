@@ -28,7 +28,7 @@ use Rattle.machine.specs.Step.{answerOf, readAnswer}
 use Rattle.machine.specs.Recover.{visitAfter, placeAfter, recoveryAnswer}
 use Rattle.image.specs.PlanLaws.{Past, plan-cases}
 use Rattle.ledger.specs.Rules.{planOf, readPlan, readClearPlan, recoveryPlan}
-use Rattle.ledger.specs.RecoverySteps.{stepIn}
+use Rattle.ledger.specs.RecoverySteps.{stepIn, stepsFor}
 use Rattle.ledger.specs.Update.{upd-if}
 use Rattle.ledger.specs.Cells.{Body, Cells, State, setStatus, setBody, applied}
 use Rattle.ledger.specs.Seen.{Sees}
@@ -36,10 +36,7 @@ use Rattle.ledger.specs.Fits.{CellsFit}
 use Rattle.ledger.specs.Invariant.{AtEntries, AtEnd, Recovering, Recovery, Invariant}
 use Rattle.ledger.specs.Machine.{Turn, refused, opens, adds, removes, submits, discards, begins, works, reads, clears, backs-word, backs-status, backs-body, crashes, recovers}
 
--- at a descriptor with this status and so many entries; of j descriptors from d on
-abbrev stepsFor : Status → ℕ → ℕ
-stepsFor s c = cond (isFree s) 1 (2 * c + 2)
-
+-- at a descriptor; of j descriptors from d on
 abbrev stepsAt : Cells → ℕ → ℕ
 stepsAt M d = stepsFor (M .status Persisted d) (length (M .body Persisted d))
 
@@ -55,6 +52,15 @@ stepsHere (suc t) M d = 2 * length (M .body Persisted d) + 2 - suc t
 unfoldable pub stepsLeft : ℕ → Cells → RecoveryPlace → ℕ
 stepsLeft k M Outside = 0
 stepsLeft k M (At d t) = stepsHere t M d + stepsFrom (k - suc d) M (suc d)
+
+pub first-left : (k : ℕ) (M : Cells) → 0 < k → stepsLeft k M (At 0 0) ≡ stepsFrom k M 0
+unfolding stepsLeft stepsFrom
+first-left zero M l = absurd (omega arith)
+first-left (suc j) M l = let z : suc j - suc 0 ≡ j = omega arith in ap (λ (i : ℕ). stepsAt M 0 + stepsFrom i M 1) z
+
+pub outside-left : (k : ℕ) (M : Cells) (p : RecoveryPlace) → p ≡ Outside → stepsLeft k M p ≡ 0
+unfolding stepsLeft
+outside-left k M p e = rw e
 
 -- two memories that have the same persisted status and body of each descriptor from d on
 from-same : (j : ℕ) (M new : Cells) (d : ℕ) → ((e : ℕ) → d ≤ e → stepsAt new e ≡ stepsAt M e) → stepsFrom j new d ≡ stepsFrom j M d
@@ -105,6 +111,27 @@ module _ (n k : ℕ) {s : State} {L : ℕ → ℕ} {In : ℕ → Bool} {Differed
   abbrev M : Cells
   M = s .cells
 
+  most : (d t : ℕ) → Recovering k s d t → t ≤ 2 * length (M .body Persisted d) + 1
+  most d t h = go (h .here)
+    where
+      go : AtEntries M d t ⊎ AtEnd M d t → t ≤ 2 * length (M .body Persisted d) + 1
+      go (inl y) = let l = y .steps in omega arith
+      go (inr y) = let l = y .steps in omega arith
+
+  -- while recovery goes on, some step is left
+  here-some : (d t : ℕ) → t ≤ 2 * length (M .body Persisted d) + 1 → 0 < stepsHere t M d
+  here-some d zero l = go (isFree (M .status Persisted d))
+    where
+      go : (f : Bool) → 0 < cond f 1 (2 * length (M .body Persisted d) + 2)
+      go true = omega arith
+      go false = omega arith
+  here-some d (suc t) l = omega arith
+
+  pub none-left : (p : RecoveryPlace) → Recovery k s p → stepsLeft k M p ≡ 0 → p ≡ Outside
+  unfolding stepsLeft
+  none-left Outside h e = refl
+  none-left (At d t) h e = let z = here-some d t (most d t h) in absurd (omega arith)
+
   -- one step of recovery
   module _ (d t : ℕ) (h : Recovering k s d t) (x : Seen) (v : Sees M Persisted d (t / 2) x) where
     abbrev c : ℕ
@@ -113,19 +140,12 @@ module _ (n k : ℕ) {s : State} {L : ℕ → ℕ} {In : ℕ → Bool} {Differed
     abbrev OneLess : RecoveryPlan → Type 0
     OneLess q = stepsLeft k M (At d t) ≡ suc (stepsLeft k (applied M d (q .effect)) (placeAfter k d (q .next)))
 
-    most : t ≤ 2 * c + 1
-    most = go (h .here)
-      where
-        go : AtEntries M d t ⊎ AtEnd M d t → t ≤ 2 * c + 1
-        go (inl y) = let l = y .steps in omega arith
-        go (inr y) = let l = y .steps in omega arith
-
     -- it goes on at d
     goes : (new : Cells) → (isFree (x .status) ≡ true → 0 < t) → ((e : ℕ) → stepsAt new e ≡ stepsAt M e) → length (new .body Persisted d) ≡ c
         → stepsLeft k M (At d t) ≡ suc (stepsLeft k new (At d (suc t)))
     unfolding stepsLeft
     goes new l same b =
-        let m = most in
+        let m = most d t h in
         let i = here-is t M d (rw (v .status) at l) in
         rw (i, b, from-same (k - suc d) M new (suc d) (λ e _. same e)) (omega arith)
 

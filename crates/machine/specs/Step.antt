@@ -57,7 +57,7 @@ onJob (Working o e p) d = eqb e d
 onJob (Reading a) d = false
 onJob (ReadClear a v) d = false
 
--- 7 (section 5.1): worker v, another than w, is on d; one of the first n workers is
+-- 7 (section 5.1 of the paper): worker v, another than w, is on d; one of the first n workers is
 unfoldable pub otherOn : Block → ℕ → ℕ → ℕ → Bool
 otherOn m w d v = not (eqb v w) && onJob (workerIn m v) d
 
@@ -86,7 +86,7 @@ isStoreFree (BackFree o) = false
 abbrev pub busyAt : Block → ℕ → ℕ → Place → Bool
 busyAt m w d p = isStoreFree p && othersOn m w d 8
 
--- its own job's start: install 0, or the read (A2 14, A3 14)
+-- its own job's start: install 0, or the read. (A3 14 starts the read again; line 14 of the paper's Algorithm 2 tries the same word again: that it is the first is 01's, "restarts its own job".)
 abbrev pub startOf : Own → Worker
 startOf (Operation d) = Working (Operation d) d (Install 0)
 startOf (Read a) = Reading a

@@ -1,5 +1,5 @@
 -- The whole machine is one list of 646 numbers, a block. A field names one of its numbers; `slot` says where that stands.
--- A field past the 64 words, 16 descriptors of 13 numbers, 8 workers of 8 numbers that a block has room for stands nowhere: it reads 0, and a store there
+-- A field past the 64 words, 16 descriptors with a status and 13 numbers of body, 8 workers of 8 numbers that a block has room for stands nowhere: it reads 0, and a store there
 -- changes nothing. (n, k and w, which may be smaller, play no part here.)
 use Prim.Native.Nat.{ℕ, _+_, _*_}
 use mathlib.Core.Bool.{cond}

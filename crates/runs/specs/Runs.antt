@@ -1,4 +1,4 @@
--- Every row of the table holds: document 01's starred runs, by computation.
+-- Every row of the table holds, by computation.
 use mathlib.Core.Path.{refl}
 use Rattle.word.specs.Word.{sortOf}
 use Rattle.word.specs.Status.{statusOf}

@@ -1,4 +1,4 @@
--- The starred runs of document 01, "Runs with known answers": bytes in, lines out. The quoted words are the page's.
+-- The starred runs of document 01, "Runs with known answers", and two more of its sentences (the last address, the empty input): bytes in, lines out. The quoted words are the page's.
 use mathlib.Core.List.{List, [], _∷_, _++_}
 use Prim.Native.Nat.{ℕ, _^_, _-_}
 use Prim.Native.String.{String}

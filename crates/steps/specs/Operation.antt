@@ -1,4 +1,4 @@
--- The steps of an operation d (document 01): from what a step sees, at most one effect on memory and what comes next. In `A2 6`, 6 is the line of the paper's Algorithm 2.
+-- The steps of an operation d (document 01): from what a step sees, at most one effect on memory and what comes next. In `A2 6`, 6 is the line of the paper's Algorithm 2; A1 is its Algorithm 1.
 use mathlib.Core.Bool.{Bool, true, false, cond}
 use Prim.Native.Nat.{ℕ, suc}
 use lib.Dec.{eqb, ltb}

@@ -81,7 +81,8 @@ pub struct Entry {
     pub desired: u64,
 }
 
-// What a step of an operation looks at: the status of its descriptor, the count, the entry that it is at, the word at that entry's address.
+// What a step looks at: the status of its descriptor, the count, the entry that it is at, the word at that entry's address. A step of an operation sees the cached
+// copy, a step of recovery the persisted status and body, and the cached word.
 pub struct Seen {
     pub status: Status,
     pub count: u64,

@@ -3,10 +3,9 @@ use mathlib.Core.Path.{_≡_, sym, _∙_}
 use mathlib.Core.Bool.{Bool}
 use Prim.Native.Nat.{ℕ}
 use Rattle.word.specs.declared.Sort.{Sort}
-use Rattle.word.specs.declared.Outcome.{Outcome}
 use Rattle.word.specs.declared.Status.{Status}
 use Rattle.word.specs.Word.{sortOf, plainWord, pointerWord, wordNumber, wordCleared}
-use Rattle.word.specs.Status.{statusOf, outcomeNumber, statusNumber, statusCleared}
+use Rattle.word.specs.Status.{statusOf, statusNumber, statusCleared}
 
 -- what equals one thing is equal
 pub coincide : {A : Type 0} {a b c : A} → a ≡ c → b ≡ c → a ≡ b
@@ -29,9 +28,6 @@ word-cleared x r s = coincide
 
 pub status-of : (x : ℕ) (r s : Status) → r ≡ statusOf x → s ≡ statusOf x → r ≡ s
 status-of x r s = coincide
-
-pub outcome-number : (o : Outcome) (r s : ℕ) → r ≡ outcomeNumber o → s ≡ outcomeNumber o → r ≡ s
-outcome-number o r s = coincide
 
 pub status-number : (x : Status) (r s : ℕ) → r ≡ statusNumber x → s ≡ statusNumber x → r ≡ s
 status-number x r s = coincide

@@ -107,15 +107,6 @@ pub fn status_of(x: u64) -> Status
     Status::Bad(x)
 }
 
-pub fn outcome_number(o: Outcome) -> u64
-    ensures { λ r. ⌜ r ≡ outcomeNumber o ⌝ }
-{
-    match o {
-        Outcome::Succeeded => 2,
-        Outcome::Failed => 3,
-    }
-}
-
 fn decided_number(o: Outcome, dirty: bool) -> u64
     ensures { λ r. ⌜ r ≡ marked dirty (outcomeNumber o) ⌝ }
 {
