@@ -18,7 +18,8 @@ use Rattle.image.specs.declared.Recovery.{Recovery}
 use Rattle.image.specs.Layout.{partOf, statusIn}
 use Rattle.image.specs.Check.{someBelow, badEntry, badAt, badBody, hasWithin, badTarget, badPointerAt, badSizes, badLength, badStatuses, badBodies, badWords, badPointers, contentChecks, imageRefusal}
 use Rattle.image.specs.Recover.{runFrom, answerFor, Recovered, recovered, unlessRefused, recoverOf}
-use Rattle.image.specs.Count.{stepsIn, stepsFrom, stepsOf, complete-exactly, told}
+use Rattle.image.specs.StepCount.{stepsFrom}
+use Rattle.image.specs.Count.{stepsOf, complete-exactly, told}
 use Rattle.image.specs.Ends.{complete-frees}
 use Rattle.image.specs.Cuts.{call-runs}
 use Rattle.excludes.specs.Differ.{by, seen}
@@ -32,7 +33,7 @@ abbrev live : List ℕ
 live = bytesOf 8 (2 ^ 62) ++ bytesOf 8 (2 ^ 63 + 2) ++ bytesOf 8 1 ++ bytesOf 8 0 ++ bytesOf 8 0 ++ bytesOf 8 5 ++ replicate 72 0
 
 pub met : (imageRefusal 1 1 live ≡ 0) × (stepsOf 1 1 live ≡ 4)
-unfolding imageRefusal firstOf someBelow badBody badAt badEntry badPointerAt badTarget hasWithin numberAt sortOf statusOf stepsFrom stepsIn
+unfolding imageRefusal firstOf someBelow badBody badAt badEntry badPointerAt badTarget hasWithin numberAt sortOf statusOf stepsFrom
 met = (refl, refl)
 
 -- where n and k are in their ranges, the answer is not 1

@@ -9,6 +9,7 @@ pub mod LayoutLaws
 pub mod PlanLaws
 pub mod Good
 pub mod Stays
+pub mod StepCount
 pub mod Count
 pub mod Flat
 pub mod OfMemory

@@ -54,10 +54,10 @@ WorkerFits n k M (Working o e p) = (e < k) × Placed p (length (M .body Cached e
 WorkerFits n k M (Reading a) = a < n
 WorkerFits n k M (ReadClear a v) = a < n
 
--- none of the first workers is on d, but w
 pub or-no : (s t : Bool) → (s || t) ≡ false → (s ≡ false) × (t ≡ false)
 or-no s t e = (or-left s t e, or-right s t e)
 
+-- none of the first workers is on d, but w
 others-no : (m : Block) (w d i : ℕ) → othersOn m w d i ≡ false → (v : ℕ) → v < i → v ≢ w → onJob (workerIn m v) d ≡ false
 unfolding othersOn otherOn
 others-no m w d zero e v l q = absurd (omega arith)

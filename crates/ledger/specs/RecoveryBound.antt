@@ -17,6 +17,7 @@ use Rattle.events.specs.declared.Answer.the-variants.{Ok}
 use Rattle.events.specs.Refusal.{firstOf, refusalOf}
 use Rattle.machine.specs.Apply.{applyOf}
 use Rattle.image.specs.Machine.{crash-begins}
+use Rattle.image.specs.StepCount.{stepsAt, stepsLeft, first-left, outside-left, from-same}
 use Rattle.ledger.specs.Statement.{memoryAt, Happens}
 use Rattle.ledger.specs.View.{cellsOf}
 use Rattle.ledger.specs.Seen.{body-length}
@@ -25,8 +26,8 @@ use Rattle.ledger.specs.Instant.{inv}
 use Rattle.ledger.specs.Ranges.{ranges}
 use Rattle.ledger.specs.Small.{Small, small-fits}
 use Rattle.ledger.specs.SmallKept.{always-small}
-use Rattle.ledger.specs.RecoverySteps.{stepAt, stepsAmong, stepsOf, AtMost160, Exactly}
-use Rattle.ledger.specs.StepsLeft.{stepsFrom, stepsLeft, first-left, outside-left, none-left, left-most, turn-left}
+use Rattle.ledger.specs.RecoverySteps.{stepAt, stepsAmong, heldIn, stepsOf, AtMost160, Exactly}
+use Rattle.ledger.specs.StepsLeft.{heldBy, none-left, left-most, turn-left}
 
 -- a crash is never refused
 crash-ok : (m : Block) → applyOf m Crash .answer ≡ Ok
@@ -37,10 +38,8 @@ crash-place : (m : Block) → Whole m → Small m → recoveryIn (applyOf m Cras
 unfolding applyOf refusalOf firstOf
 crash-place m h s = crash-begins m h (small-fits Persisted m s) .place
 
-from-cells : (j : ℕ) (m : Block) (d : ℕ) → stepsFrom j (cellsOf m) d ≡ stepsOf j m d
-unfolding stepsFrom stepsOf
-from-cells zero m d = refl
-from-cells (suc j) m d = rw (body-length Persisted m d, from-cells j m (suc d))
+same-held : (m : Block) (e : ℕ) → stepsAt (heldBy (cellsOf m)) e ≡ stepsAt (heldIn m) e
+same-held m e = rw (body-length Persisted m e)
 
 module _ (n k w : ℕ) (nn : n ≤ 64) (kk : k ≤ 16) (ww : w ≤ 8) (kp : 0 < k) (es : List Event) where
   abbrev m : ℕ → Block
@@ -48,7 +47,7 @@ module _ (n k w : ℕ) (nn : n ≤ 64) (kk : k ≤ 16) (ww : w ≤ 8) (kp : 0 < 
 
   -- the steps left at moment i
   abbrev leftAt : ℕ → ℕ
-  leftAt i = stepsLeft k (cellsOf (m i)) (recoveryIn (m i))
+  leftAt i = stepsLeft k (heldBy (cellsOf (m i))) (recoveryIn (m i))
 
   -- event i is no crash
   next-left : (i : ℕ) → ¬ (Happens n k w es i Crash Ok) → leftAt i ≡ stepAt n k w es i + leftAt (suc i)
@@ -71,10 +70,10 @@ module _ (n k w : ℕ) (nn : n ≤ 64) (kk : k ≤ 16) (ww : w ≤ 8) (kp : 0 < 
       rw z (omega arith)
 
   -- a crash begins recovery at descriptor 0
-  crash-left : (i : ℕ) → Happens n k w es i Crash Ok → (leftAt (suc i) ≤ 160) × (leftAt (suc i) ≡ stepsOf k (m (suc i)) 0)
+  crash-left : (i : ℕ) → Happens n k w es i Crash Ok → (leftAt (suc i) ≤ 160) × (leftAt (suc i) ≡ stepsOf k (m (suc i)))
   crash-left i h = (
     rw place (left-most n k (cellsOf (m (suc i))) (inv n k w nn kk ww kp es (suc i) .fits) kp kk),
-    ap (stepsLeft k (cellsOf (m (suc i)))) place ∙ first-left k (cellsOf (m (suc i))) kp ∙ from-cells k (m (suc i)) 0,
+    ap (stepsLeft k (heldBy (cellsOf (m (suc i))))) place ∙ first-left k (heldBy (cellsOf (m (suc i)))) kp ∙ from-same k (heldIn (m (suc i))) (heldBy (cellsOf (m (suc i)))) 0 (λ e _ _. same-held (m (suc i)) e),
   )
     where
       place : recoveryIn (m (suc i)) ≡ At 0 0
@@ -93,6 +92,6 @@ exactly n k w e es i j h q =
     let c = crash-left n k w (r .words) (r .descriptors) (r .workers) (r .some) es i h .1 in
     let d = all-left n k w (r .words) (r .descriptors) (r .workers) (r .some) es (suc i) j (λ t l m. q t (omega arith) (omega arith)) in
     let I = inv n k w (r .words) (r .descriptors) (r .workers) (r .some) es (suc i + j) in (
-      λ o. let z = outside-left k (cellsOf (memoryAt n k w es (suc i + j))) (recoveryIn (memoryAt n k w es (suc i + j))) o in omega arith,
+      λ o. let z = outside-left k (heldBy (cellsOf (memoryAt n k w es (suc i + j)))) (recoveryIn (memoryAt n k w es (suc i + j))) o in omega arith,
       λ s. none-left n k I (recoveryIn (memoryAt n k w es (suc i + j))) (I .place) (omega arith),
     )

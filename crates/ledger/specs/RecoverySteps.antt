@@ -3,12 +3,10 @@
 use mathlib.Core.Path.{_≡_}
 use mathlib.Core.Bool.{true, cond}
 use mathlib.Core.List.{List}
-use Prim.Native.Nat.{ℕ, zero, suc, _+_, _*_, _<_, _≤_}
+use Prim.Native.Nat.{ℕ, zero, suc, _+_, _<_, _≤_}
 use lib.Dec.{ltb}
 use lib.ListN.{length, getD}
-use Rattle.word.specs.declared.Status.{Status}
 use Rattle.steps.specs.declared.RecoveryPlace.the-variants.{Outside}
-use Rattle.steps.specs.Plan.{isFree}
 use Rattle.memory.specs.declared.Copy.the-variants.{Persisted}
 use Rattle.memory.specs.Block.{Block}
 use Rattle.memory.specs.Content.{statusIn, countIn, recoveryIn}
@@ -18,6 +16,7 @@ use Rattle.events.specs.declared.Event.the-variants.{Crash}
 use Rattle.events.specs.declared.Answer.{Answer}
 use Rattle.events.specs.declared.Answer.the-variants.{Ok, Opened, Moved, Helping, Waits, Answered, Shows, Recovering, Recovered, Refused}
 use Rattle.machine.specs.Apply.{applyOf}
+use Rattle.image.specs.StepCount.{Held, stepsFrom}
 use Rattle.ledger.specs.Statement.{memoryAt, Happens}
 
 -- 1 for a step of recovery that is taken, else 0: no other event is answered A or Z
@@ -42,13 +41,12 @@ module _ (n k w : ℕ) (es : List Event) where
   stepsAmong i zero = 0
   stepsAmong i (suc j) = stepsAmong i j + stepAt (i + j)
 
--- what a crash leaves to be done: "Free: one step", else "2c+2 steps for count c"; of j descriptors from d on, by persisted statuses and counts
-abbrev pub stepsFor : Status → ℕ → ℕ
-stepsFor s c = cond (isFree s) 1 (2 * c + 2)
+-- what a crash leaves to be done, by persisted statuses and counts: "Free: one step", else "2c+2 steps for count c" (`stepsFor`, which the steps of an image are counted by too)
+abbrev pub heldIn : Block → Held
+heldIn m = record { status = statusIn Persisted m; count = countIn Persisted m }
 
-unfoldable pub stepsOf : ℕ → Block → ℕ → ℕ
-stepsOf zero m d = 0
-stepsOf (suc j) m d = stepsFor (statusIn Persisted m d) (countIn Persisted m d) + stepsOf j m (suc d)
+abbrev pub stepsOf : ℕ → Block → ℕ
+stepsOf k m = stepsFrom k (heldIn m) 0
 
 -- event i is a crash, and none of the j events after it is one: at most 160 of them are steps of recovery that are taken
 abbrev pub AtMost160 : Type 0
@@ -59,5 +57,5 @@ AtMost160 = (n k w : ℕ) → goodSizes n k w ≡ true → (es : List Event) (i 
 abbrev pub Exactly : Type 0
 Exactly = (n k w : ℕ) → goodSizes n k w ≡ true → (es : List Event) (i j : ℕ) → Happens n k w es i Crash Ok
     → ((t : ℕ) → i < t → t ≤ i + j → ¬ (Happens n k w es t Crash Ok))
-    → (recoveryIn (memoryAt n k w es (suc i + j)) ≡ Outside → stepsAmong n k w es (suc i) j ≡ stepsOf k (memoryAt n k w es (suc i)) 0)
-    × (stepsAmong n k w es (suc i) j ≡ stepsOf k (memoryAt n k w es (suc i)) 0 → recoveryIn (memoryAt n k w es (suc i + j)) ≡ Outside)
+    → (recoveryIn (memoryAt n k w es (suc i + j)) ≡ Outside → stepsAmong n k w es (suc i) j ≡ stepsOf k (memoryAt n k w es (suc i)))
+    × (stepsAmong n k w es (suc i) j ≡ stepsOf k (memoryAt n k w es (suc i)) → recoveryIn (memoryAt n k w es (suc i + j)) ≡ Outside)
