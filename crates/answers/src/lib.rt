@@ -1,4 +1,6 @@
 // The lines of `tick`, put into a buffer that the caller lends ("Answer lines of `tick`").
+#![tactic(auto)]
+
 mod line;
 mod text;
 

@@ -1,5 +1,7 @@
 // Applies as many contended events as its input says, and prints a checksum of the answers, the operations that succeeded and those that failed.
 // Eight workers swap two of four words each, all the time, with a write-back now and then.
+#![tactic(auto)]
+
 ghost use Rattle.std.specs.Prelude.{◌<◌, ◌≤◌};
 
 use events::{Answer, Event};

@@ -1,4 +1,6 @@
 // A worker and recovery's place as numbers of the block, and back. Nothing else knows these numbers.
+#![tactic(auto)]
+
 ghost use Rattle.std.specs.Prelude.{◌≡◌};
 ghost use Rattle.codes.specs.Place.{place_of, place_number, place_entry, place_noted};
 ghost use Rattle.codes.specs.Row.{place_in, own_in, is_working, worker_of, row_of, row_bare, row_at, recovery_of, recovery_row};

@@ -1,4 +1,6 @@
 // Events and answers of document 01, the refusals 4 to 17, and the events that build a descriptor (records 01 to 03).
+#![tactic(auto)]
+
 mod build;
 mod refuse;
 

@@ -1,4 +1,6 @@
 // The input of a program in pieces: what has been read and not used yet is kept at the start of a buffer.
+#![tactic(auto)]
+
 ghost use Rattle.std.specs.Prelude.{◌≡◌, ◌+◌, ◌≤◌, length, take};
 ghost use Rattle.feed.specs.Feed.{Kept, kept, kept_of};
 

@@ -1,4 +1,6 @@
 // Recovery of a memory image, for the C runtime (document 01, "Images for the C runtime").
+#![tactic(auto)]
+
 mod check;
 mod claim;
 mod part;

@@ -1,5 +1,7 @@
 // A number of eight bytes, the lowest first, at a place of a slice. Where the eight bytes do not all lie in the slice,
 // 0 is read, and a store changes nothing.
+#![tactic(auto)]
+
 ghost use Rattle.std.specs.Prelude.{◌≡◌, ◌<◌, ◌≤◌, ◌+◌, length, take, drop};
 ghost use Rattle.little.specs.Number.{number_of, number_at, with_number};
 

@@ -1,6 +1,8 @@
 // The whole machine in one lent block: every word, status and body in a cached and a persisted copy, the workers, the sizes and
 // recovery's place. Only this crate knows where each number stands. Past the 64 words, 16 descriptors
 // and 8 workers that a block has room for, 0 is read, and a store changes nothing.
+#![tactic(auto)]
+
 mod begin;
 mod block;
 mod bodies;

@@ -1,4 +1,6 @@
 // A schedule's bytes, played: a piece of the input into a piece of the output (document 01, "Answer lines of `tick`").
+#![tactic(auto)]
+
 mod record;
 mod run;
 

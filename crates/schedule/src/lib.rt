@@ -1,4 +1,6 @@
 // Schedule records: one byte of kind, then a body whose length the kind fixes (document 01, "Schedule records").
+#![tactic(auto)]
+
 ghost use Rattle.std.specs.Prelude.{◌≡◌, ◌≤◌};
 ghost use Rattle.events.specs.Event.{kind_of};
 ghost use Rattle.events.specs.Refusal.{first_of};

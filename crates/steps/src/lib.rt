@@ -1,5 +1,7 @@
 // Where a worker stands, and what its next step does: the steps of an operation, the read, and recovery (document 01, "The steps of
 // an operation d"). No memory here: a plan is made from what a step sees, and has at most one effect.
+#![tactic(auto)]
+
 mod common;
 mod operation;
 mod recovery;

@@ -1,4 +1,6 @@
 // tick: reads a schedule on standard input, and writes the line of each record and the last line on standard output.
+#![tactic(auto)]
+
 ghost use Rattle.std.specs.Prelude.{◌≤◌, length};
 
 use feed::{keep, read_on};

@@ -1,5 +1,7 @@
 // trace: reads a schedule on standard input as `tick` does, and writes the lines of `tick`; after the line of a record what the record
 // changed, after the last line the whole memory. docs/TRACE.md has the lines.
+#![tactic(auto)]
+
 mod bodies;
 mod changes;
 mod lines;

@@ -1,5 +1,7 @@
 // vectors: plays every schedule that the file `names` names, a name to a line, and holds its whole output to the one that is
 // expected: NAME.bytes is the schedule, NAME.out the output. A line for each, and one with the counts.
+#![tactic(auto)]
+
 mod compare;
 mod files;
 mod output;

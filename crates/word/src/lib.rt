@@ -1,4 +1,6 @@
 // What a 64-bit number means in memory: document 01, "What the memory holds".
+#![tactic(auto)]
+
 ghost use Rattle.std.specs.Prelude.{◌≡◌, ◌<◌, ◌^◌};
 ghost use Rattle.word.specs.Word.{sort_of, marked, plain_word, pointer_word, word_number, word_cleared};
 ghost use Rattle.word.specs.Status.{status_of, outcome_number, status_number, status_cleared};
