@@ -12,7 +12,7 @@ use word::Outcome;
 // Where a worker is in building its next operation: 0 idle, 1 opened, 2 and 3 words added, 4 submitted.
 type Phases = [u8; 8];
 
-#[derive(Drop)]
+#[derive(Clone, Copy)]
 struct Count {
     sum: u64,
     won: u64,

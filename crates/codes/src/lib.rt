@@ -9,7 +9,7 @@ use steps::{Own, Place, RecoveryPlace, Worker};
 use word::Outcome;
 
 // A worker's row: what it is, what it owns, its current job, its place there, the entry, what it noted.
-#[derive(Drop)]
+#[derive(Clone, Copy)]
 pub struct Row {
     pub tag: u64,
     pub own: u64,
@@ -20,13 +20,14 @@ pub struct Row {
 }
 
 // Recovery's place: whether there is one, the descriptor, the steps done.
-#[derive(Drop)]
+#[derive(Clone, Copy)]
 pub struct RecoveryRow {
     pub on: u64,
     pub descriptor: u64,
     pub done: u64,
 }
 
+#[tactic(auto, unfolding(crate::specs::Place::place_of))]
 fn place_of(k: u64, i: u64, v: u64) -> Place
     ensures { result ≡ place_of k i v }
 {

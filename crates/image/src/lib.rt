@@ -14,7 +14,7 @@ use crate::recover::run;
 
 // What the caller is told: 0 complete, 256 incomplete, else the refusal's number; and the steps taken.
 #[repr(C)]
-#[derive(Drop)]
+#[derive(Clone, Copy)]
 pub struct Recovery {
     pub answer: u64,
     pub steps: u64,

@@ -16,7 +16,7 @@ use little::{read_u64, write_u64};
 const DIRTY: u64 = 1 << 63;
 
 // What a descriptor's steps leave of the allowance; or it was used up before they were over.
-#[derive(Drop)]
+#[derive(Clone, Copy)]
 enum Visit {
     Over(u64),
     Stopped,

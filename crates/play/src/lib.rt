@@ -7,7 +7,7 @@ mod run;
 pub use run::{finish, play};
 
 // Where reading stands.
-#[derive(Drop)]
+#[derive(Clone, Copy)]
 pub enum Stage {
     // before the setup
     First,
@@ -18,7 +18,7 @@ pub enum Stage {
 }
 
 // How far playing came: where reading stands, the bytes of the input used, the bytes of the output written.
-#[derive(Drop)]
+#[derive(Clone, Copy)]
 pub struct Progress {
     pub stage: Stage,
     pub used: usize,
@@ -26,7 +26,7 @@ pub struct Progress {
 }
 
 // What one record leaves: where reading stands, the place after its line.
-#[derive(Drop)]
+#[derive(Clone, Copy)]
 pub struct Mark {
     pub stage: Stage,
     pub to: usize,

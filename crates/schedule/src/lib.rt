@@ -13,7 +13,7 @@ use memory::Sizes;
 
 // What stands at a place of the input: a record, with its kind and its body's length; a kind that is unknown there
 // (refusal 3); a record that the input ends inside of (refusal 2); nothing more.
-#[derive(Drop)]
+#[derive(Clone, Copy)]
 pub enum Head {
     Record(u8, usize),
     Unknown,

@@ -11,7 +11,7 @@ use memory::{Copy, Memory, read_recovery, read_status, read_word, read_worker};
 use steps::{RecoveryPlace, Worker};
 
 // What a line is about.
-#[derive(Drop)]
+#[derive(Clone, Copy)]
 pub(crate) enum Topic {
     Word,
     Status,
@@ -20,7 +20,7 @@ pub(crate) enum Topic {
 }
 
 // A part that a line does not need is blank.
-#[derive(Drop)]
+#[derive(Clone, Copy)]
 pub(crate) struct Line {
     pub name: Part,
     pub a: Part,

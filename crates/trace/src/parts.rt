@@ -2,7 +2,7 @@
 use crate::texts::{NOTHING, text_of};
 use answers::{put_byte, put_decimal};
 
-#[derive(Drop)]
+#[derive(Clone, Copy)]
 pub(crate) struct Part {
     pub text: usize,
     pub number: u64,

@@ -4,7 +4,7 @@ ghost use Rattle.std.specs.Prelude.{◌≤◌, length};
 use answers::put_text;
 
 // What was read of a file: how many bytes, and whether that is all of it.
-#[derive(Drop)]
+#[derive(Clone, Copy)]
 pub(crate) struct Part {
     pub n: usize,
     pub whole: bool,
