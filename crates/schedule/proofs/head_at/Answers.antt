@@ -7,4 +7,4 @@ returns-then-s-at c = head_end _ _ _ c.if-s-at.true
 
 pub returns : goal.returns
 returns c =
-    head_inside _ _ _ _ _ _ c.if-s-at.false c.length_of-n.ensures c.is_Known.ensures c.verdict.ensures
+    head_inside _ _ _ _ _ _ c.if-s-at.false c.length_of-n.ensures c.is_known-right.ensures c.verdict.ensures
