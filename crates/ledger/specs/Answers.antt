@@ -37,6 +37,7 @@ EntryFor b a = (j : ℕ) × (j < length b) × (a ≡ address_at b j) × (expecte
 
 entry-for : (b : Body) (a : ℕ) → Has b a → EntryFor b a
 unfolding expected_of
+entry-for mathlib.Core.List.[] a x' = elim x' [ ]
 entry-for (e ∷ b) a (here p) = (0, omega arith, p, rw p (upd_same (expected_of b) e.address e.expected))
 entry-for (e ∷ b) a (later h) = go (ℕ_discrete a e.address) (entry-for b a h)
   where
