@@ -1,4 +1,3 @@
-use Rattle.std.proofs.Common.{rules}
 use lib.Bits.{and_mask}
 use Rattle.word.specs.Word.{sort_of}
 use Rattle.word.proofs.Masks.{clear, raised, tested}
