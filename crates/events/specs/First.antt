@@ -41,6 +41,7 @@ pub data Gives : List Check → ℕ → Type 0 where
 
 pub gives_first : (cs : List Check) (r : ℕ) → Gives cs r → first_of cs ≡ r
 unfolding first_of
+gives_first [] r x' = elim x' [ ]
 gives_first (c ∷ cs) r (here e) = rw e
 gives_first (c ∷ cs) r (later e g) = rw e (gives_first cs r g)
 
@@ -77,5 +78,6 @@ none_holds (c ∷ cs) e f =
 
 -- a number that a table gives is not 0
 pub gives_some : (cs : List Check) (r : ℕ) → numbered cs ≡ true → Gives cs r → r ≡ 0 → ⊥
+gives_some [] r e x'' = elim x'' [ ]
 gives_some (c ∷ cs) r e (here h) = eqb-false c.number 0 (not-true (eqb c.number 0) (and_first (not (eqb c.number 0)) (numbered cs) e))
 gives_some (c ∷ cs) r e (later h g) = gives_some cs r (and_second (not (eqb c.number 0)) (numbered cs) e) g

@@ -1,0 +1,12 @@
+use mathlib.Core.Path.{◌≡◌, refl}
+use Prim.Native.Nat.{◌-◌}
+use Rattle.events.specs.Build.{inserted}
+use Rattle.std.proofs.Common.{rules}
+use Rattle.events.proofs.BuildLaws.{insert_here, insert_up, insert_first}
+use Rattle.events.proofs.build.insert.Given as goal
+
+abbrev pub invariant-loop-i : goal.invariant-loop-i
+invariant-loop-i l = inserted l.i l.m l.d l.e ≡ inserted l.count l.initial.m l.d l.e
+
+abbrev pub decreases-loop-i : goal.decreases-loop-i
+decreases-loop-i l = l.i

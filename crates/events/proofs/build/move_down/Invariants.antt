@@ -1,0 +1,13 @@
+use mathlib.Core.Path.{◌≡◌, refl}
+use Prim.Native.Nat.{◌+◌, ◌-◌}
+use Rattle.events.specs.Build.{moved_down}
+use Rattle.std.proofs.Common.{rules}
+use Rattle.std.proofs.Common.{arith}
+use Rattle.events.proofs.BuildLaws.{down_next, down_end}
+use Rattle.events.proofs.build.move_down.Given as goal
+
+abbrev pub invariant-loop-left : goal.invariant-loop-left
+invariant-loop-left l = (moved_down l.left l.m l.d l.at ≡ moved_down l.n l.initial.m l.d l.i) × (l.at + l.left ≡ l.i + l.n)
+
+abbrev pub decreases-loop-left : goal.decreases-loop-left
+decreases-loop-left l = l.left

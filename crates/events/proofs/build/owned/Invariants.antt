@@ -1,0 +1,14 @@
+use mathlib.Core.Path.{◌≡◌, refl}
+use Prim.Native.Nat.{◌≤◌, ◌-◌}
+use mathlib.Core.Bool.{false}
+use Rattle.events.specs.Build.{owned_below}
+use Rattle.std.proofs.Common.{rules}
+use Rattle.std.proofs.Common.{arith}
+use Rattle.events.proofs.BuildLaws.{owned_found, owned_next, owned_none}
+use Rattle.events.proofs.build.owned.Given as goal
+
+abbrev pub invariant-loop-w : goal.invariant-loop-w
+invariant-loop-w l = (owned_below l.m l.d l.w ≡ false) × (l.w ≤ 8)
+
+abbrev pub decreases-loop-w : goal.decreases-loop-w
+decreases-loop-w l = 8 - l.w

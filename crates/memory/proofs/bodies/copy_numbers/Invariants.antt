@@ -1,0 +1,13 @@
+use mathlib.Core.Path.{◌≡◌, refl}
+use Prim.Native.Nat.{◌≤◌, ◌-◌}
+use Rattle.std.proofs.Common.{arith}
+use Rattle.memory.specs.Content.{copied}
+use Rattle.memory.proofs.BodyLaws.{copied_next, copied_end}
+use Rattle.std.proofs.Common.{rules}
+use Rattle.memory.proofs.bodies.copy_numbers.Given as goal
+
+abbrev pub invariant-loop-i : goal.invariant-loop-i
+invariant-loop-i l = (l.m ≡ copied l.initial.m l.from l.to l.i) × (l.i ≤ l.n)
+
+abbrev pub decreases-loop-i : goal.decreases-loop-i
+decreases-loop-i l = l.n - l.i
