@@ -167,6 +167,5 @@ fn main(rt: HostRuntime) {
     let mut text = [0u8; 32];
     read_text(&mut rt.stdin(), &mut text);
     let c = run(parse(&text));
-    let (sum, won, lost) = (c.sum, c.won, c.lost);
-    let _ = println!(rt; "{sum} {won} {lost}");
+    let _ = println!(rt; "{} {} {}", c.sum, c.won, c.lost);
 }
