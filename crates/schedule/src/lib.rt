@@ -22,6 +22,7 @@ pub enum Head {
 }
 
 // The length of a body. 0B and 0C have none, and a kind that there is not has none.
+#[tactic(auto, unfolding(crate::specs::Record::length_of))]
 fn length_of(kind: u8) -> usize
     ensures { result ≡ length_of kind }
 {
@@ -111,6 +112,7 @@ fn byte_at(body: &[u8], i: usize) -> u64
 }
 
 // Any kind that is none of 01 to 0B is taken for 0C, so that the last case needs no test.
+#[tactic(auto, unfolding(crate::specs::Content::event_of))]
 fn event_in(kind: u8, body: &[u8]) -> Event
     ensures { result ≡ event_of kind body.now }
 {
@@ -134,8 +136,8 @@ fn event_in(kind: u8, body: &[u8]) -> Event
 
 // The event of a record of kind 01 to 0C: an event of that kind.
 pub fn event_of(kind: u8, body: &[u8]) -> Event
-    ensures value { result ≡ event_of kind body.now }
-    ensures result_value { 0x01 ≤ kind → kind ≤ 0x0C → kind_of result ≡ kind }
+    ensures as_defined { result ≡ event_of kind body.now }
+    ensures of_its_kind { 0x01 ≤ kind → kind ≤ 0x0C → kind_of result ≡ kind }
 {
     event_in(kind, body)
 }

@@ -1,0 +1,15 @@
+use mathlib.Core.Path.{◌≡◌, refl}
+use Prim.Native.Nat.{◌≤◌, ◌-◌}
+use Rattle.std.proofs.Common.{arith}
+use lib.ListN.{length}
+use Rattle.answers.specs.Put.{filled, put_of}
+use Rattle.answers.specs.Line.{spaced, values_below}
+use Rattle.answers.proofs.LineLaws.{values_none, values_next, values_end}
+use Rattle.std.proofs.Common.{rules}
+use Rattle.answers.proofs.line.put_values.Goals as goal
+
+pub loop-a-init : goal.loop-a-init
+loop-a-init c = (search (rules, values_none), (omega arith, refl))
+
+pub loop-a-preserved : goal.loop-a-preserved
+loop-a-preserved c = (search (rules, values_next), (omega arith, search rules))

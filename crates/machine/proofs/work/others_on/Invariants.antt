@@ -1,0 +1,14 @@
+use mathlib.Core.Path.{◌≡◌, refl}
+use Prim.Native.Nat.{◌≤◌, ◌-◌}
+use mathlib.Core.Bool.{false}
+use Rattle.machine.specs.Step.{others_on}
+use Rattle.std.proofs.Common.{rules}
+use Rattle.std.proofs.Common.{arith}
+use Rattle.machine.proofs.StepLaws.{others_found, others_next, others_none}
+use Rattle.machine.proofs.work.others_on.Given as goal
+
+abbrev pub invariant-loop-v : goal.invariant-loop-v
+invariant-loop-v l = (others_on l.m l.w l.d l.v ≡ false) × (l.v ≤ 8)
+
+abbrev pub decreases-loop-v : goal.decreases-loop-v
+decreases-loop-v l = 8 - l.v
