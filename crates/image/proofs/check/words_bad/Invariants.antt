@@ -1,0 +1,15 @@
+use mathlib.Core.Path.{◌≡◌, refl}
+use mathlib.Core.Bool.{false}
+use Prim.Native.Nat.{◌≤◌, ◌-◌}
+use Rattle.std.proofs.Common.{arith}
+use Rattle.image.specs.Check.{some_below, bad_words}
+use Rattle.image.specs.CheckLaws.{below_none}
+use Rattle.image.proofs.ImageLaws.{words_found, words_next}
+use Rattle.std.proofs.Common.{rules}
+use Rattle.image.proofs.check.words_bad.Given as goal
+
+abbrev pub invariant-loop-a : goal.invariant-loop-a
+invariant-loop-a l = (bad_words l.a l.image ≡ false) × (l.a ≤ l.n)
+
+abbrev pub decreases-loop-a : goal.decreases-loop-a
+decreases-loop-a l = l.n - l.a

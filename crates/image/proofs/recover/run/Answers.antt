@@ -1,0 +1,18 @@
+use mathlib.Core.Path.{◌≡◌}
+use Prim.Native.Nat.{◌≤◌, ◌-◌}
+use Rattle.std.proofs.Common.{arith}
+use Rattle.image.specs.Good.{Good}
+use Rattle.image.specs.Recover.{run_from}
+use Rattle.steps.specs.declared.RecoveryPlace.TheVariants.{At}
+use Rattle.image.proofs.RunLaws.{before, after_steps, visit_fits, visit_body, visit_kept, goes_within, goes-on, stops, goes_in, goes_out}
+use Rattle.std.proofs.Common.{rules}
+use Rattle.image.proofs.recover.run.Goals as goal
+
+pub returns-in_default : goal.returns-in_default
+returns-in_default c = search (rules, stops)
+
+pub loop-d-preserved : goal.loop-d-preserved
+loop-d-preserved c = (search (rules, goes_within), (search (rules, visit_kept), search (rules, goes-on)))
+
+pub returns : goal.returns
+returns c = search (rules, goes_out)

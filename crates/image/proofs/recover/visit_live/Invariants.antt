@@ -1,0 +1,10 @@
+use Rattle.std.proofs.Common.{rules}
+use Prim.Native.Nat.{◌-◌}
+use Rattle.image.proofs.VisitLaws.{Going, going_in, going_stops, address_fits, value_fits, going_halts, going_on, going_over}
+use Rattle.image.proofs.recover.visit_live.Given as goal
+
+abbrev pub invariant-loop-i : goal.invariant-loop-i
+invariant-loop-i l = Going l.n l.d l.allowance l.initial.image l.image l.count l.i l.left
+
+abbrev pub decreases-loop-i : goal.decreases-loop-i
+decreases-loop-i l = l.count - l.i
