@@ -21,8 +21,7 @@ pub struct Recovery {
 }
 
 // Every check is over before the first byte is stored: a refused image is untouched.
-#[unsafe(no_mangle)]
-pub extern "C" fn pmwcas_recover(n: u64, k: u64, image: &mut [u8], allowance: u64) -> Recovery
+pub fn pmwcas_recover(n: u64, k: u64, image: &mut [u8], allowance: u64) -> Recovery
     ensures { recovered image.new result ≡ recover_of n k image.old allowance }
 {
     let r = refuse(n, k, image);

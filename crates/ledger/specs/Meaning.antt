@@ -58,6 +58,7 @@ has? (e ∷ b) a = go (ℕ_discrete a e.address) (has? b a)
 -- where the body has the address, the ledger becomes its desired value; elsewhere it stays
 pub put_in : (b : Body) (L : ℕ → ℕ) (a : ℕ) → Has b a → put_all b L a ≡ desired_of b a
 unfolding put_all desired_of
+put_in [] L a x' = elim x' [ ]
 put_in (e ∷ b) L a (here p) = rw (p, upd_same (put_all b L) e.address e.desired, upd_same (desired_of b) e.address e.desired)
 put_in (e ∷ b) L a (later h) = upd_cong _ _ e.address e.desired a (put_in b L a h)
 
@@ -73,5 +74,6 @@ has-at (e ∷ b) zero h = here refl
 has-at (e ∷ b) (suc i) h = later (has-at b i (omega arith))
 
 pub at_has : (b : Body) (a : ℕ) (P : ℕ → Type 0) → Has b a → ((i : ℕ) → i < length b → P (address_at b i)) → P a
+at_has [] a P x'' u = elim x'' [ ]
 at_has (e ∷ b) a P (here p) u = rw p (u 0 (omega arith))
 at_has (e ∷ b) a P (later m) u = at_has b a P m (λ j h. u (suc j) (omega arith))

@@ -23,7 +23,7 @@ pub use Rattle.steps.specs.Operation.{store_free}
 pub use Rattle.steps.specs.Operation.{plan_of}
 pub use Rattle.steps.specs.Plan.{read_plan, read_clear_plan}
 -- recovery: what it leaves in a word, its steps, and all of it
-pub use Rattle.steps.specs.Plan.{left_value as recoveredValue}
+pub use Rattle.steps.specs.Plan.{left_value as recovered_value}
 pub use Rattle.steps.specs.Recovery.{recovery_step}
 unfoldable pub use Rattle.steps.specs.Recovery.{entry_step}
 unfoldable pub use Rattle.steps.specs.Recovery.{end_step}

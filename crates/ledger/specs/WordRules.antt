@@ -18,7 +18,7 @@ module _ (M : Cells) (L : ℕ → ℕ) (In : ℕ → Bool) (Differed : ℕ → T
       → ((d : ℕ) → M.status Cached d ≡ Free → NoneBelongs M d → ¬ (Belongs d x))
       → Agrees (set_word M k a x) L In Differed
   word_changed k a x v l p q = record {
-    value = in_frame (λ c b y. means M b y ≡ L b) k g.value v;
+    value = in_frame (λ c b y. means M b y ≡ L b) {f = M.word} k {x = x} g.value v;
     live = in_frame (λ c b y. Live M b y) k g.live l;
     pair = λ d. pair_map
         (λ e f all. in_frame (λ c b y. Has (M.body Persisted d) b → Belongs d y) k all (p d e f all))

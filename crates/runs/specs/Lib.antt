@@ -3,4 +3,3 @@ pub mod Lines
 pub mod Row
 pub mod Test
 pub mod Table
-pub mod Runs
