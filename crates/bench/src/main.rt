@@ -7,6 +7,7 @@ ghost use Rattle.std.specs.Prelude.{◌<◌, ◌≤◌};
 use events::{Answer, Event};
 use machine::apply;
 use memory::{Memory, fresh};
+use std::io::Read;
 use word::Outcome;
 
 // Where a worker is in building its next operation: 0 idle, 1 opened, 2 and 3 words added, 4 submitted.
@@ -150,14 +151,21 @@ fn run(n: u64) -> Count {
     c
 }
 
-fn main() {
+// Reads until the text is full, the input ends or a read fails.
+fn read_text(input: &mut impl Read, text: &mut [u8; 32]) {
+    let mut n = 0;
+    while n < 32 {
+        let got = input.read(&mut text[n..]).unwrap_or(0);
+        if got == 0 {
+            return;
+        }
+        n += got;
+    }
+}
+
+fn main(rt: HostRuntime) {
     let mut text = [0u8; 32];
-    io::read_full(0, &mut text);
+    read_text(&mut rt.stdin(), &mut text);
     let c = run(parse(&text));
-    io::print_decimal(1, c.sum);
-    io::write_all(1, b" ");
-    io::print_decimal(1, c.won);
-    io::write_all(1, b" ");
-    io::print_decimal(1, c.lost);
-    io::write_all(1, b"\n");
+    let _ = println!(rt; "{} {} {}", c.sum, c.won, c.lost);
 }

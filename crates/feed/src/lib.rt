@@ -4,9 +4,11 @@
 ghost use Rattle.std.specs.Prelude.{◌≡◌, ◌+◌, ◌≤◌, length, take};
 ghost use Rattle.feed.specs.Feed.{Kept, kept, kept_of};
 
-// One call of read on standard input, behind the bytes that are kept; how many bytes there are then. As many as before: the input
-// has ended, or the read failed, or the buffer is full.
-pub fn read_on(buf: &mut [u8], have: usize) -> usize
+use std::io::Read;
+
+// One read of the input, behind the bytes that are kept; how many bytes there are then. As many as before: the input has ended, or
+// the read failed, or the buffer is full.
+pub fn read_on(input: &mut impl Read, buf: &mut [u8], have: usize) -> usize
     ensures buf_len_unchanged { (length buf.new ≡ length buf.old) × ((result ≤ length buf.new) × (take have buf.new ≡ take have buf.old)) }
     ensures lower_bound { have ≤ length buf.old → have ≤ result }
     ensures value { length buf.old ≤ have → result ≡ length buf.old }
@@ -15,8 +17,10 @@ pub fn read_on(buf: &mut [u8], have: usize) -> usize
         return buf.len();
     }
     let part = &mut buf[have..];
-    let got = libc::read(0, part);
-    have + io::count(got, part)
+    match input.read(part) {
+        Ok(got) => have + got,
+        Err(_) => have,
+    }
 }
 
 // The bytes from a place up to another go to the start; how many there are.

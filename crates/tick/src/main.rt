@@ -16,15 +16,22 @@ fn is_over(s: Stage) -> bool {
 }
 
 // Writes the first n bytes; whether that went well.
-fn write(out: &[u8], n: usize) -> bool {
+fn write(rt: &impl Print, out: &[u8], n: usize) -> bool {
     if out.len() < n {
         return false;
     }
-    io::write_all(1, &out[0..n])
+    rt.write_all(&out[0..n]).is_ok()
 }
 
 // Plays from a place of the input on, and writes the lines; a write that fails ends it.
-fn play_from(m: &mut Memory, s: Stage, input: &[u8], at: usize, out: &mut [u8]) -> Progress
+fn play_from(
+    rt: &impl Print,
+    m: &mut Memory,
+    s: Stage,
+    input: &[u8],
+    at: usize,
+    out: &mut [u8],
+) -> Progress
     requires { at ≤ length input.now }
     ensures { result.used ≤ length input.now }
 {
@@ -32,7 +39,7 @@ fn play_from(m: &mut Memory, s: Stage, input: &[u8], at: usize, out: &mut [u8]) 
     let stage = r.stage;
     let used = at + r.used;
     let written = r.written;
-    if write(out, written) {
+    if write(rt, out, written) {
         return Progress {
             stage,
             used,
@@ -47,13 +54,19 @@ fn play_from(m: &mut Memory, s: Stage, input: &[u8], at: usize, out: &mut [u8]) 
 }
 
 // Plays every whole record of a piece.
-fn play_piece(m: &mut Memory, stage: Stage, input: &[u8], out: &mut [u8]) -> Progress
+fn play_piece(
+    rt: &impl Print,
+    m: &mut Memory,
+    stage: Stage,
+    input: &[u8],
+    out: &mut [u8],
+) -> Progress
     ensures { result.used ≤ length input.now }
 {
     let mut s = stage;
     let mut at = 0;
     while at < input.len() {
-        let r = play_from(m, s, input, at, out);
+        let r = play_from(rt, m, s, input, at, out);
         if r.used <= at {
             return r;
         }
@@ -67,29 +80,30 @@ fn play_piece(m: &mut Memory, stage: Stage, input: &[u8], out: &mut [u8]) -> Pro
     }
 }
 
-fn end(m: &Memory, s: Stage, rest: &[u8], out: &mut [u8]) {
+fn end(rt: &impl Print, m: &Memory, s: Stage, rest: &[u8], out: &mut [u8]) {
     let n = finish(m, s, rest, out);
-    write(out, n);
+    write(rt, out, n);
 }
 
-fn main() {
+fn main(rt: HostRuntime) {
+    let mut stdin = rt.stdin();
     let mut m = [0u64; 646];
-    let mut input = io::large_buffer();
-    let mut out = io::large_buffer();
+    let mut input = [0u8; 65536];
+    let mut out = [0u8; 65536];
     let mut s = Stage::First;
     let mut have: usize = 0;
     let mut turns = u64::MAX;
     while turns > 0 {
-        let more = read_on(&mut input, have);
+        let more = read_on(&mut stdin, &mut input, have);
         if more <= have {
-            end(&m, s, &input[0..have], &mut out);
+            end(&rt, &m, s, &input[0..have], &mut out);
             return;
         }
-        let r = play_piece(&mut m, s, &input[0..more], &mut out);
+        let r = play_piece(&rt, &mut m, s, &input[0..more], &mut out);
         s = r.stage;
         have = keep(&mut input, r.used, more);
         if is_over(s) {
-            end(&m, s, &input[0..0], &mut out);
+            end(&rt, &m, s, &input[0..0], &mut out);
             return;
         }
         turns -= 1;

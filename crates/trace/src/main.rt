@@ -37,10 +37,10 @@ fn put_all(out: &mut [u8], at: usize, m: &Memory, begun: bool) -> usize {
     at
 }
 
-fn end(m: &Memory, s: Stage, rest: &[u8], out: &mut [u8]) {
+fn end(rt: &impl Print, m: &Memory, s: Stage, rest: &[u8], out: &mut [u8]) {
     let b = finish(m, s, rest, out);
     let c = put_all(out, b, m, has_begun(s));
-    write_out(out, c);
+    write_out(rt, out, c);
 }
 
 // How often to read on: no more where nothing new was read, or reading is over.
@@ -55,19 +55,20 @@ fn reads_left(s: Stage, new: bool, reads: u64) -> u64
 }
 
 // Where nothing new was read, what is kept is no whole record, and playing it changes nothing.
-fn main() {
+fn main(rt: HostRuntime) {
+    let mut stdin = rt.stdin();
     let mut m = [0u64; 646];
-    let mut input = io::large_buffer();
-    let mut out = io::large_buffer();
+    let mut input = [0u8; 65536];
+    let mut out = [0u8; 65536];
     let mut s = Stage::First;
     let mut have: usize = 0;
     let mut reads = u64::MAX;
     while reads > 0 {
-        let more = read_on(&mut input, have);
-        let r = play_piece(&mut m, s, &input[0..more], &mut out);
+        let more = read_on(&mut stdin, &mut input, have);
+        let r = play_piece(&rt, &mut m, s, &input[0..more], &mut out);
         s = r.stage;
         reads = reads_left(s, have < more, reads);
         have = keep(&mut input, r.used, more);
     }
-    end(&m, s, &input[0..have], &mut out);
+    end(&rt, &m, s, &input[0..have], &mut out);
 }

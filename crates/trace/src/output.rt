@@ -1,7 +1,7 @@
 // Writes the first n bytes of the output; whether that went well.
-pub(crate) fn write_out(out: &[u8], n: usize) -> bool {
+pub(crate) fn write_out(rt: &impl Print, out: &[u8], n: usize) -> bool {
     if out.len() < n {
         return false;
     }
-    io::write_all(1, &out[0..n])
+    rt.write_all(&out[0..n]).is_ok()
 }

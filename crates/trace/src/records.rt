@@ -30,7 +30,7 @@ fn is_setup(before: Stage, after: Stage) -> bool {
 }
 
 // Writes the text where there is more of it than this; a write that fails ends reading.
-fn drained(out: &[u8], p: Progress, most: usize) -> Progress
+fn drained(rt: &impl Print, out: &[u8], p: Progress, most: usize) -> Progress
     ensures { result.used ≡ p.used }
 {
     let stage = p.stage;
@@ -38,7 +38,7 @@ fn drained(out: &[u8], p: Progress, most: usize) -> Progress
     if p.written <= most {
         return p;
     }
-    if write_out(out, p.written) {
+    if write_out(rt, out, p.written) {
         return Progress {
             stage,
             used,
@@ -55,6 +55,7 @@ fn drained(out: &[u8], p: Progress, most: usize) -> Progress
 // Plays the record at a place of the input, if a whole one is there, and puts its line and what it changed. A line of 48 bytes has
 // room for one record's.
 fn play_one(
+    rt: &impl Print,
     m: &mut Memory,
     s: Stage,
     input: &[u8],
@@ -77,20 +78,26 @@ fn play_one(
         used: at + r.used,
         written,
     };
-    drained(out, p, HALF)
+    drained(rt, out, p, HALF)
 }
 
 // Plays every whole record of a piece, and writes all of their text.
-pub(crate) fn play_piece(m: &mut Memory, stage: Stage, input: &[u8], out: &mut [u8]) -> Progress
+pub(crate) fn play_piece(
+    rt: &impl Print,
+    m: &mut Memory,
+    stage: Stage,
+    input: &[u8],
+    out: &mut [u8],
+) -> Progress
     ensures { result.used ≤ length input.now }
 {
     let mut s = stage;
     let mut at = 0;
     let mut to = 0;
     while at < input.len() {
-        let r = play_one(m, s, input, at, out, to);
+        let r = play_one(rt, m, s, input, at, out, to);
         if r.used <= at {
-            return drained(out, r, 0);
+            return drained(rt, out, r, 0);
         }
         s = r.stage;
         at = r.used;
@@ -101,5 +108,5 @@ pub(crate) fn play_piece(m: &mut Memory, stage: Stage, input: &[u8], out: &mut [
         used: at,
         written: to,
     };
-    drained(out, p, 0)
+    drained(rt, out, p, 0)
 }

@@ -16,15 +16,13 @@ fn alike(a: &[u8], b: &[u8]) -> usize {
 }
 
 // The name and `same`, or the first byte that differs; whether it is the same.
-pub(crate) fn report(name: &[u8], got: &[u8], wanted: &[u8]) -> bool {
+pub(crate) fn report(rt: &impl Print, name: &[u8], got: &[u8], wanted: &[u8]) -> bool {
     let n = alike(got, wanted);
-    io::write_all(1, name);
+    let _ = rt.write_all(name);
     if n == got.len() && n == wanted.len() {
-        io::write_all(1, b": same\n");
+        let _ = println!(rt; ": same");
         return true;
     }
-    io::write_all(1, b": differs at byte ");
-    io::print_decimal(1, n as u64);
-    io::write_all(1, b"\n");
+    let _ = println!(rt; ": differs at byte {n}");
     false
 }

@@ -2,6 +2,9 @@
 ghost use Rattle.std.specs.Prelude.{◌≤◌, length};
 
 use answers::put_text;
+use std::fs;
+use std::io::Read;
+use std::rt::Files;
 
 // What was read of a file: how many bytes, and whether that is all of it.
 #[derive(Clone, Copy)]
@@ -10,22 +13,38 @@ pub(crate) struct Part {
     pub whole: bool,
 }
 
+// Reads until the buffer is full, the file ends or a read fails; how many bytes there are then.
+fn read_full(file: &mut impl Read, buf: &mut [u8]) -> usize
+    ensures { result ≤ length buf.new }
+{
+    let mut n = 0;
+    while n < buf.len() {
+        let got = file.read(&mut buf[n..]).unwrap_or(0);
+        if got == 0 {
+            return n;
+        }
+        n += got;
+    }
+    n
+}
+
 // Reads a file to the start of a buffer; one that fills the buffer may be longer, and does not count as whole.
-pub(crate) fn load(path: &[u8], buf: &mut [u8]) -> Part
+pub(crate) fn load(rt: &impl Files, path: &[u8], buf: &mut [u8]) -> Part
     ensures { result.n ≤ length buf.new }
 {
-    let fd = os::open_read(path);
-    if fd < 0 {
+    let Ok(text) = str::from_utf8(path) else {
         return Part { n: 0, whole: false };
-    }
-    let n = io::read_full(fd, buf);
-    libc::close(fd);
+    };
+    let Ok(mut file) = fs::open(rt, text) else {
+        return Part { n: 0, whole: false };
+    };
+    let n = read_full(&mut file, buf);
     let whole = n < buf.len();
     Part { n, whole }
 }
 
 // The path is put into a buffer of as many bytes as no path has: one that fills it opens no file.
-fn load_by(path: &mut [u8], name: &[u8], ending: &[u8], buf: &mut [u8]) -> Part
+fn load_by(rt: &impl Files, path: &mut [u8], name: &[u8], ending: &[u8], buf: &mut [u8]) -> Part
     ensures { result.n ≤ length buf.new }
 {
     let k = put_text(path, 0, name);
@@ -33,15 +52,15 @@ fn load_by(path: &mut [u8], name: &[u8], ending: &[u8], buf: &mut [u8]) -> Part
     if path.len() < n {
         return Part { n: 0, whole: false };
     }
-    load(&path[0..n], buf)
+    load(rt, &path[0..n], buf)
 }
 
 // Reads the file with a name and an ending.
-pub(crate) fn load_part(name: &[u8], ending: &[u8], buf: &mut [u8]) -> Part
+pub(crate) fn load_part(rt: &impl Files, name: &[u8], ending: &[u8], buf: &mut [u8]) -> Part
     ensures { result.n ≤ length buf.new }
 {
-    let mut path = io::buffer();
-    load_by(&mut path, name, ending, buf)
+    let mut path = [0u8; 4096];
+    load_by(rt, &mut path, name, ending, buf)
 }
 
 // The length of the first line.
