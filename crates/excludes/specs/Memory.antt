@@ -1,7 +1,7 @@
 -- The crate `memory`: what its promises rule out. The blocks are any that are whole; where a fault shows only in some, the premise says in which.
 use Rattle.std.specs.Prelude.{◌≡◌, refl, ◌≢◌, Bool, true, false, cond, ◌&&◌, ℕ, zero, suc, ◌+◌, ◌<◌, ◌≤◌, eqb, ltb}
 use Rattle.std.proofs.Common.{◌∙◌, arith, lt-ltb, le-ltb, eqb-true}
-use Rattle.std.proofs.Math.Logic.{Ne·symm}
+use Rattle.std.proofs.Math.Logic.{Ne-symm}
 use Rattle.std.proofs.lemmas.Bool.{lt-leb, eqb-false}
 use Rattle.word.specs.declared.Sort.{Sort}
 use Rattle.word.specs.declared.Sort.TheVariants.{Plain, Pointer}
@@ -24,7 +24,7 @@ use Rattle.memory.specs.declared.Copy.TheVariants.{Cached, Persisted}
 use Rattle.memory.specs.declared.Found.{Found}
 use Rattle.memory.specs.declared.Found.TheVariants.{Here, Missing}
 use Rattle.memory.specs.declared.Sizes.{Sizes}
-use Rattle.memory.specs.Block.{Block, Field, slot, at, get, put}
+use Rattle.memory.specs.Block.{Block, Field, slot, get, put}
 use Rattle.memory.specs.Block.Field.{word, status, body, worker}
 use Rattle.memory.specs.Content.{word_in, put_word, back_word, status_in, put_status, back_status, count_in, put_count, entry_in, put_entry, clear_body, copied, back_body, crash_copied, row_in, worker_in, put_worker, idled, recovery_in, put_recovery}
 use Rattle.memory.specs.Fresh.{sizes_in, within, good_sizes, fresh_block, Begun, begun, fresh_of}
@@ -42,7 +42,7 @@ module _ (m : Block) (h : Whole m) (f : Field) (l : Somewhere f) (v : ℕ) where
   left_out n = seen (λ x. get x f) refl (get_put m f v h l) n
 
   elsewhere_too : (g : Field) (u : ℕ) → Somewhere g → f ≢ g → get m g ≢ u → put (put m f v) g u ≢ put m f v
-  elsewhere_too g u k n o = seen (λ x. get x g) (get_put (put m f v) g u (whole_put m f v h) k) (get_other m f v g n) (Ne·symm o)
+  elsewhere_too g u k n o = seen (λ x. get x g) (get_put (put m f v) g u (whole_put m f v h) k) (get_other m f v g n) (Ne-symm o)
 
 -- a store to the cached copy is not read in the persisted one
 module _ (m : Block) (a d : ℕ) where
@@ -62,7 +62,7 @@ pub put_word_not_nothing : (m : Block) (a : ℕ) (s : Sort) → Whole m → a < 
 put_word_not_nothing m a s h l k n = seen (λ x. word_in Cached x a) refl (word_stored m h a l s k) n
 
 pub put_word_not_to_both_copies : (m : Block) (a : ℕ) (s : Sort) → Whole m → a < 64 → get (put_word m a s) (word Cached a) ≢ get m (word Persisted a) → back_word (put_word m a s) a ≢ put_word m a s
-put_word_not_to_both_copies m a s h l n = elsewhere_too m h (word Cached a) (word_somewhere Cached a l) _ (word Persisted a) _ (word_somewhere Persisted a l) (λ e. clash (cc)) (Ne·symm n)
+put_word_not_to_both_copies m a s h l n = elsewhere_too m h (word Cached a) (word_somewhere Cached a l) _ (word Persisted a) _ (word_somewhere Persisted a l) (λ e. clash (cc)) (Ne-symm n)
 
 pub back_word_not_nothing : (m : Block) (a : ℕ) → Whole m → a < 64 → word_in Persisted m a ≢ word_in Cached m a → m ≢ back_word m a
 back_word_not_nothing m a h l n = seen (λ x. word_in Persisted x a) refl (word_backed m h a l) n
@@ -82,7 +82,7 @@ pub put_status_not_nothing : (m : Block) (d : ℕ) (s : Status) → Whole m → 
 put_status_not_nothing m d s h l k n = seen (λ x. status_in Cached x d) refl (status_stored m h d l s k) n
 
 pub put_status_not_to_both_copies : (m : Block) (d : ℕ) (s : Status) → Whole m → d < 16 → get (put_status m d s) (status Cached d) ≢ get m (status Persisted d) → back_status (put_status m d s) d ≢ put_status m d s
-put_status_not_to_both_copies m d s h l n = elsewhere_too m h (status Cached d) (status_somewhere Cached d l) _ (status Persisted d) _ (status_somewhere Persisted d l) (λ e. clash (cc)) (Ne·symm n)
+put_status_not_to_both_copies m d s h l n = elsewhere_too m h (status Cached d) (status_somewhere Cached d l) _ (status Persisted d) _ (status_somewhere Persisted d l) (λ e. clash (cc)) (Ne-symm n)
 
 pub back_status_not_nothing : (m : Block) (d : ℕ) → Whole m → d < 16 → status_in Persisted m d ≢ status_in Cached m d → m ≢ back_status m d
 back_status_not_nothing m d h l n = seen (λ x. status_in Persisted x d) refl (status_backed m h d l) n
@@ -183,7 +183,7 @@ put_worker_not_nothing m w x h l n = seen (λ y. worker_in y w) refl (worker_sto
 
 pub put_worker_not_anothers_too : (m : Block) (w v : ℕ) (x : Worker) → Whole m → v < 8 → w ≢ v → worker_in m v ≢ x → put_worker (put_worker m w x) v x ≢ put_worker m w x
 put_worker_not_anothers_too m w v x h l n o =
-    seen (λ y. worker_in y v) (worker_stored (put_worker m w x) v x (row_whole m w (row_of x) h) l) (other_worker m w v x n) (Ne·symm o)
+    seen (λ y. worker_in y v) (worker_stored (put_worker m w x) v x (row_whole m w (row_of x) h) l) (other_worker m w v x n) (Ne-symm o)
 
 pub put_working_not_nothing : (m : Block) (w job : ℕ) (o : Own) (p : Place) → Whole m → w < 8 → worker_in m w ≢ Working o job p → m ≢ put_worker m w (Working o job p)
 put_working_not_nothing m w job o p h l n = put_worker_not_nothing m w (Working o job p) h l n

@@ -1,5 +1,5 @@
 -- The crate `play`: what its promises rule out.
-use Rattle.std.specs.Prelude.{◌≡◌, refl, ◌≢◌, false, List, [], ◌∷◌, ◌++◌, ℕ, zero, suc, ◌+◌, ◌≤◌, length}
+use Rattle.std.specs.Prelude.{◌≡◌, refl, ◌≢◌, false, List, [], ◌∷◌, ◌++◌, ℕ, zero, suc, ◌≤◌, length}
 use Rattle.std.proofs.Common.{arith, length-append}
 use Rattle.memory.specs.Block.{Block}
 use Rattle.events.specs.declared.Answer.TheVariants.{Refused}

@@ -1,6 +1,3 @@
-use mathlib.Core.Path.{◌≡◌, refl}
-use Prim.Native.Nat.{◌-◌}
-use Rattle.events.specs.Build.{inserted}
 use Rattle.std.proofs.Common.{rules}
 use Rattle.events.proofs.BuildLaws.{insert_here, insert_up, insert_first}
 use Rattle.events.proofs.build.insert.Goals as goal

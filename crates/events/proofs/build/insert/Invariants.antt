@@ -1,8 +1,5 @@
-use mathlib.Core.Path.{◌≡◌, refl}
-use Prim.Native.Nat.{◌-◌}
+use mathlib.Core.Path.{◌≡◌}
 use Rattle.events.specs.Build.{inserted}
-use Rattle.std.proofs.Common.{rules}
-use Rattle.events.proofs.BuildLaws.{insert_here, insert_up, insert_first}
 use Rattle.events.proofs.build.insert.Given as goal
 
 abbrev pub invariant-loop-i : goal.invariant-loop-i

@@ -1,10 +1,8 @@
-use mathlib.Core.Path.{◌≡◌, refl}
-use Prim.Native.Nat.{◌≤◌, ◌-◌}
-use Rattle.memory.specs.declared.Found.TheVariants.{Missing}
+use mathlib.Core.Path.{refl}
 use Rattle.events.specs.Build.{lowest_below}
 use Rattle.std.proofs.Common.{rules}
 use Rattle.std.proofs.Common.{arith}
-use Rattle.events.proofs.BuildLaws.{lowest_here, lowest_next, lowest_none}
+use Rattle.events.proofs.BuildLaws.{lowest_here, lowest_next}
 use Rattle.events.proofs.build.lowest.Goals as goal
 
 pub loop-d-init : goal.loop-d-init

@@ -1,10 +1,7 @@
-use mathlib.Core.Path.{◌≡◌, refl}
+use mathlib.Core.Path.{◌≡◌}
 use Prim.Native.Nat.{◌≤◌, ◌-◌}
 use Rattle.memory.specs.declared.Found.TheVariants.{Missing}
 use Rattle.events.specs.Build.{lowest_below}
-use Rattle.std.proofs.Common.{rules}
-use Rattle.std.proofs.Common.{arith}
-use Rattle.events.proofs.BuildLaws.{lowest_here, lowest_next, lowest_none}
 use Rattle.events.proofs.build.lowest.Given as goal
 
 abbrev pub invariant-loop-d : goal.invariant-loop-d

@@ -1,6 +1,3 @@
-use mathlib.Core.Path.{◌≡◌, refl}
-use Prim.Native.Nat.{◌+◌, ◌-◌}
-use Rattle.events.specs.Build.{moved_down}
 use Rattle.std.proofs.Common.{rules}
 use Rattle.std.proofs.Common.{arith}
 use Rattle.events.proofs.BuildLaws.{down_next, down_end}

@@ -1,9 +1,6 @@
-use mathlib.Core.Path.{◌≡◌, refl}
-use Prim.Native.Nat.{◌+◌, ◌-◌}
+use mathlib.Core.Path.{◌≡◌}
+use Prim.Native.Nat.{◌+◌}
 use Rattle.events.specs.Build.{moved_down}
-use Rattle.std.proofs.Common.{rules}
-use Rattle.std.proofs.Common.{arith}
-use Rattle.events.proofs.BuildLaws.{down_next, down_end}
 use Rattle.events.proofs.build.move_down.Given as goal
 
 abbrev pub invariant-loop-left : goal.invariant-loop-left

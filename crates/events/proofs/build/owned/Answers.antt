@@ -1,10 +1,8 @@
-use mathlib.Core.Path.{◌≡◌, refl}
-use Prim.Native.Nat.{◌≤◌, ◌-◌}
-use mathlib.Core.Bool.{false}
+use mathlib.Core.Path.{refl}
 use Rattle.events.specs.Build.{owned_below}
 use Rattle.std.proofs.Common.{rules}
 use Rattle.std.proofs.Common.{arith}
-use Rattle.events.proofs.BuildLaws.{owned_found, owned_next, owned_none}
+use Rattle.events.proofs.BuildLaws.{owned_found, owned_next}
 use Rattle.events.proofs.build.owned.Goals as goal
 
 pub loop-w-init : goal.loop-w-init

@@ -1,10 +1,7 @@
-use mathlib.Core.Path.{◌≡◌, refl}
+use mathlib.Core.Path.{◌≡◌}
 use Prim.Native.Nat.{◌≤◌, ◌-◌}
 use mathlib.Core.Bool.{false}
 use Rattle.events.specs.Build.{owned_below}
-use Rattle.std.proofs.Common.{rules}
-use Rattle.std.proofs.Common.{arith}
-use Rattle.events.proofs.BuildLaws.{owned_found, owned_next, owned_none}
 use Rattle.events.proofs.build.owned.Given as goal
 
 abbrev pub invariant-loop-w : goal.invariant-loop-w

@@ -1,8 +1,7 @@
-use mathlib.Core.Path.{◌≡◌, refl}
-use Prim.Native.Nat.{◌≤◌, ◌-◌}
+use mathlib.Core.Path.{refl}
 use Rattle.std.proofs.Common.{arith}
 use Rattle.memory.specs.Content.{cleared_to}
-use Rattle.memory.proofs.BodyLaws.{cleared_next, cleared_end}
+use Rattle.memory.proofs.BodyLaws.{cleared_next}
 use Rattle.std.proofs.Common.{rules}
 use Rattle.memory.proofs.bodies.clear_body.Goals as goal
 

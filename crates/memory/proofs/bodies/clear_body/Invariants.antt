@@ -1,9 +1,6 @@
-use mathlib.Core.Path.{◌≡◌, refl}
+use mathlib.Core.Path.{◌≡◌}
 use Prim.Native.Nat.{◌≤◌, ◌-◌}
-use Rattle.std.proofs.Common.{arith}
 use Rattle.memory.specs.Content.{cleared_to}
-use Rattle.memory.proofs.BodyLaws.{cleared_next, cleared_end}
-use Rattle.std.proofs.Common.{rules}
 use Rattle.memory.proofs.bodies.clear_body.Given as goal
 
 abbrev pub invariant-loop-j : goal.invariant-loop-j

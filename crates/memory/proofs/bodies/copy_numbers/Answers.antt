@@ -1,8 +1,7 @@
-use mathlib.Core.Path.{◌≡◌, refl}
-use Prim.Native.Nat.{◌≤◌, ◌-◌}
+use mathlib.Core.Path.{refl}
 use Rattle.std.proofs.Common.{arith}
 use Rattle.memory.specs.Content.{copied}
-use Rattle.memory.proofs.BodyLaws.{copied_next, copied_end}
+use Rattle.memory.proofs.BodyLaws.{copied_next}
 use Rattle.std.proofs.Common.{rules}
 use Rattle.memory.proofs.bodies.copy_numbers.Goals as goal
 

@@ -1,9 +1,6 @@
-use mathlib.Core.Path.{◌≡◌, refl}
+use mathlib.Core.Path.{◌≡◌}
 use Prim.Native.Nat.{◌≤◌, ◌-◌}
-use Rattle.std.proofs.Common.{arith}
 use Rattle.memory.specs.Content.{copied}
-use Rattle.memory.proofs.BodyLaws.{copied_next, copied_end}
-use Rattle.std.proofs.Common.{rules}
 use Rattle.memory.proofs.bodies.copy_numbers.Given as goal
 
 abbrev pub invariant-loop-i : goal.invariant-loop-i

@@ -1,8 +1,7 @@
-use mathlib.Core.Path.{◌≡◌, refl}
-use Prim.Native.Nat.{◌≤◌, ◌-◌}
+use mathlib.Core.Path.{refl}
 use Rattle.std.proofs.Common.{arith}
 use Rattle.memory.specs.Content.{idled}
-use Rattle.memory.proofs.WorkerLaws.{idled_next, idled_end}
+use Rattle.memory.proofs.WorkerLaws.{idled_next}
 use Rattle.std.proofs.Common.{rules}
 use Rattle.memory.proofs.workers.idle_workers.Goals as goal
 

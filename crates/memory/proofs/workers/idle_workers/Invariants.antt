@@ -1,9 +1,6 @@
-use mathlib.Core.Path.{◌≡◌, refl}
+use mathlib.Core.Path.{◌≡◌}
 use Prim.Native.Nat.{◌≤◌, ◌-◌}
-use Rattle.std.proofs.Common.{arith}
 use Rattle.memory.specs.Content.{idled}
-use Rattle.memory.proofs.WorkerLaws.{idled_next, idled_end}
-use Rattle.std.proofs.Common.{rules}
 use Rattle.memory.proofs.workers.idle_workers.Given as goal
 
 abbrev pub invariant-loop-w : goal.invariant-loop-w
