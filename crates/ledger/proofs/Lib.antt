@@ -34,3 +34,6 @@ pub mod RecoveryBound
 pub mod Beyond
 pub mod LastLine
 pub mod BytesDemand
+pub mod Completed
+pub mod Never
+pub mod Follows
