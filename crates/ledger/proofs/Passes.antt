@@ -22,7 +22,7 @@ use Rattle.memory.specs.Content as C
 use Rattle.memory.specs.Fresh.{within, good_sizes}
 use Rattle.events.specs.declared.Event.{Event}
 use Rattle.events.specs.First.{and_first, and_second}
-use Rattle.image.specs.Layout.{word_of, part_of, status_in, count_in, entry_in}
+use Rattle.image.specs.Layout.{word_of, part_of, count_in, entry_in}
 use Rattle.image.specs.Check.{some_below, bad_sizes, is_bad, bad_status, bad_entry, bad_at, bad_body, is_neither, has_within, has_address, bad_target, bad_pointer, bad_pointer_at, image_refusal}
 use Rattle.image.specs.CheckLaws.{none_below, below_all}
 use Rattle.image.specs.Good.{good_back}
