@@ -35,16 +35,16 @@ byte_stored s at v j h m =
     ∙ ap (λ (q : List ℕ). get_or q j 0) (take_at (bytes_of 8 v) (drop (at + 8) s) 8 refl))
 
 -- byte j of the word at a when recovery is over: its own where the word is no pointer, else of its value
-abbrev byte_by : ℕ → List ℕ → ℕ → ℕ → Sort → ℕ
+abbrev pub byte_by : ℕ → List ℕ → ℕ → ℕ → Sort → ℕ
 byte_by n x a j (Plain v dirty) = get_or x (word_place a + j) 0
 byte_by n x a j (Pointer d dirty) = get_or (bytes_of 8 (word_number (Plain (value_in n x a) false))) j 0
 byte_by n x a j (Neither w) = get_or x (word_place a + j) 0
 
-abbrev word_end : ℕ → List ℕ → ℕ → ℕ → ℕ
+abbrev pub word_end : ℕ → List ℕ → ℕ → ℕ → ℕ
 word_end n x a j = byte_by n x a j (word_of x a)
 
 -- byte j of descriptor d
-abbrev part_byte : ℕ → List ℕ → ℕ → ℕ → ℕ
+abbrev pub part_byte : ℕ → List ℕ → ℕ → ℕ → ℕ
 part_byte n x d j = get_or x (descriptor_place n d + j) 0
 
 points_byte : (n : ℕ) (x : List ℕ) (a j d : ℕ) (w : Sort) → points_to w d ≡ true → byte_by n x a j w ≡ get_or (bytes_of 8 (word_number (Plain (value_in n x a) false))) j 0
@@ -52,22 +52,22 @@ points_byte n x a j d (Plain v dirty) e = let z : ◌≡◌ {A = ℕ} 0 1 = cc i
 points_byte n x a j d (Pointer c dirty) e = refl
 points_byte n x a j d (Neither v) e = let z : ◌≡◌ {A = ℕ} 0 1 = cc in absurd (omega arith)
 
-plain_byte : (n : ℕ) (x : List ℕ) (a j : ℕ) (w : Sort) → is_plain w ≡ true → byte_by n x a j w ≡ get_or x (word_place a + j) 0
+pub plain_byte : (n : ℕ) (x : List ℕ) (a j : ℕ) (w : Sort) → is_plain w ≡ true → byte_by n x a j w ≡ get_or x (word_place a + j) 0
 plain_byte n x a j (Plain v dirty) e = refl
 plain_byte n x a j (Pointer c dirty) e = let z : ◌≡◌ {A = ℕ} 0 1 = cc in absurd (omega arith)
 plain_byte n x a j (Neither v) e = refl
 
-same_byte : (n : ℕ) (x y : List ℕ) (a j : ℕ) (w : Sort) → get_or y (word_place a + j) 0 ≡ get_or x (word_place a + j) 0 → value_in n y a ≡ value_in n x a
+pub same_byte : (n : ℕ) (x y : List ℕ) (a j : ℕ) (w : Sort) → get_or y (word_place a + j) 0 ≡ get_or x (word_place a + j) 0 → value_in n y a ≡ value_in n x a
     → byte_by n y a j w ≡ byte_by n x a j w
 same_byte n x y a j (Plain v dirty) e f = e
 same_byte n x y a j (Pointer c dirty) e f = ap (λ (v : ℕ). get_or (bytes_of 8 (word_number (Plain v false))) j 0) f
 same_byte n x y a j (Neither v) e f = e
 
 -- y comes from x by recovery: the words end as they would, and all but the statuses is as it was
-abbrev From : ℕ → ℕ → List ℕ → List ℕ → Type 0
+abbrev pub From : ℕ → ℕ → List ℕ → List ℕ → Type 0
 From n k x y = ((a j : ℕ) → a < n → j < 8 → word_end n y a j ≡ word_end n x a j) × ((d j : ℕ) → d < k → 8 ≤ j → j < 112 → part_byte n y d j ≡ part_byte n x d j)
 
-from_then : (n k : ℕ) (x y z : List ℕ) → From n k x y → From n k y z → From n k x z
+pub from_then : (n k : ℕ) (x y z : List ℕ) → From n k x y → From n k y z → From n k x z
 from_then n k x y z f g = (λ a j h l. g.0 a j h l ∙ f.0 a j h l, λ d j h l m. g.1 d j h l m ∙ f.1 d j h l m)
 
 -- one step
@@ -118,7 +118,7 @@ run-from (suc s) n k x (At d done) g r =
     let q = place_then n k x d done in
     from_then n k x y (run_from s n k y q).bytes (step_from n k x g d done r) (run-from s n k y q (step_good n k x d done g r) (step_stands n k x d done g r))
 
-cut_from : (n k : ℕ) (x : List ℕ) (s : ℕ) → image_refusal n k x ≡ 0 → From n k x (run_from s n k x (At 0 0)).bytes
+pub cut_from : (n k : ℕ) (x : List ℕ) (s : ℕ) → image_refusal n k x ≡ 0 → From n k x (run_from s n k x (At 0 0)).bytes
 cut_from n k x s e =
     let c = accepted n k x e in
     run-from s n k x (At 0 0) (good n k x c) (begins n k x 0 (sizes_small n k c.sizes).1.1.0)
@@ -152,7 +152,7 @@ zero_byte x p j h e m =
     let f : number_of (take 8 (drop p x)) ≡ 0 = rw (le-leb _ _ h) at e in
     sym (get_or-drop p x j 0) ∙ sym (get_or-take 8 (drop p x) j 0 m) ∙ number_zero (take 8 (drop p x)) f j
 
-free_byte : (n k : ℕ) (x : List ℕ) → Sized n k x → (d j : ℕ) → d < k → status_in (part_of x n d) ≡ Free → j < 8 → part_byte n x d j ≡ 0
+pub free_byte : (n k : ℕ) (x : List ℕ) → Sized n k x → (d j : ℕ) → d < k → status_in (part_of x n d) ≡ Free → j < 8 → part_byte n x d j ≡ 0
 free_byte n k x z d j h f m =
     let e = z.bytes in
     let i : descriptor_place n d + 0 ≡ descriptor_place n d = omega arith in
@@ -162,7 +162,7 @@ free_byte n k x z d j h f m =
     zero_byte x (descriptor_place n d) j (omega arith) u m
 
 -- two images that come from one, with every word plain and every status Free, are the same
-abbrev Over : ℕ → ℕ → List ℕ → Type 0
+abbrev pub Over : ℕ → ℕ → List ℕ → Type 0
 Over n k x = ((d : ℕ) → d < k → status_in (part_of x n d) ≡ Free) × ((a : ℕ) → a < n → is_plain (word_of x a) ≡ true)
 
 module _ (n k : ℕ) (x y z : List ℕ) (sy : Sized n k y) (sz : Sized n k z) (fy : From n k x y) (fz : From n k x z) (oy : Over n k y) (oz : Over n k z) where
@@ -184,7 +184,7 @@ module _ (n k : ℕ) (x y z : List ℕ) (sy : Sized n k y) (sz : Sized n k z) (f
       let q : descriptor_place n ((i - 8 * n) / 112) + (i - 8 * n) % 112 ≡ i = omega arith in
       rw q at (part_alike ((i - 8 * n) / 112) ((i - 8 * n) % 112) (omega arith) (omega arith) (ltb ((i - 8 * n) % 112) 8) refl)
 
-  all_alike : y ≡ z
+  pub all_alike : y ≡ z
   all_alike =
       let p = sy.bytes in
       ext_get_or 0 y z (p ∙ sym sz.bytes) (λ i l. byte_alike i (omega arith) (ltb i (8 * n)) refl)

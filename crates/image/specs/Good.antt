@@ -51,7 +51,7 @@ good_back n k x e g =
     })
 
 -- a pointer's target is as good as it was where its bytes are as they were
-pointer_kept : (n k : ℕ) (x y : List ℕ) (b : ℕ) (w : Sort) → ((d : ℕ) → d < k → points_to w d ≡ true → part_of y n d ≡ part_of x n d) → bad_pointer n k x b w ≡ false
+pub pointer_kept : (n k : ℕ) (x y : List ℕ) (b : ℕ) (w : Sort) → ((d : ℕ) → d < k → points_to w d ≡ true → part_of y n d ≡ part_of x n d) → bad_pointer n k x b w ≡ false
     → bad_pointer n k y b w ≡ false
 unfolding bad_target
 pointer_kept n k x y b (Plain v dirty) f e = refl

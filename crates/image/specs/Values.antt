@@ -95,7 +95,7 @@ points_value n x a d (Pointer c dirty) e = rw (eqb-true c d e)
 points_value n x a d (Neither v) e = let z : ◌≡◌ {A = ℕ} 0 1 = cc in absurd (omega arith)
 
 -- a value is what it was where the bytes of the descriptor pointed to are
-value_same : (n k : ℕ) (x y : List ℕ) (b : ℕ) (w : Sort) → ((d : ℕ) → d < k → points_to w d ≡ true → part_of y n d ≡ part_of x n d) → bad_pointer n k x b w ≡ false
+pub value_same : (n k : ℕ) (x y : List ℕ) (b : ℕ) (w : Sort) → ((d : ℕ) → d < k → points_to w d ≡ true → part_of y n d ≡ part_of x n d) → bad_pointer n k x b w ≡ false
     → sort_value_in n y b w ≡ sort_value_in n x b w
 unfolding bad_target
 value_same n k x y b (Plain v dirty) f e = refl
