@@ -1,0 +1,3 @@
+pub mod Mixing
+pub mod CutMixed
+pub mod Order

@@ -1,0 +1,4 @@
+pub mod Again
+pub mod InPart
+pub mod Way
+pub mod AgainHolds
