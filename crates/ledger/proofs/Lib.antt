@@ -37,3 +37,4 @@ pub mod BytesDemand
 pub mod Completed
 pub mod Never
 pub mod Follows
+pub mod InPart

@@ -32,3 +32,4 @@ pub mod Lines
 pub mod Out
 pub mod Setup
 pub mod Places
+pub mod Mixture
