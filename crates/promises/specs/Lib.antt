@@ -1,0 +1,12 @@
+pub mod Word
+pub mod Little
+pub mod Steps
+pub mod Codes
+pub mod Memory
+pub mod Events
+pub mod Machine
+pub mod Schedule
+pub mod Answers
+pub mod Play
+pub mod Image
+pub mod Feed
