@@ -2,3 +2,5 @@ pub mod Again
 pub mod InPart
 pub mod Way
 pub mod AgainHolds
+pub mod Counted
+pub mod Followed
