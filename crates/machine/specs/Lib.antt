@@ -6,3 +6,4 @@ pub mod Refused
 pub mod Kept
 pub mod Whole
 pub mod Wait
+pub mod WaitsOnly
