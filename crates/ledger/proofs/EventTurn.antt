@@ -19,7 +19,6 @@ use Rattle.ledger.specs.Meaning.{Has, expected_of}
 use Rattle.ledger.specs.BodyRules
 use Rattle.ledger.specs.BodyRules.{forget}
 use Rattle.ledger.specs.Rule.{Rule, OwnersOnly}
-use Rattle.ledger.specs.Rule
 use Rattle.ledger.specs.Fire.{fires_same, put_none, wrote, wrote_none}
 use Rattle.ledger.specs.Still.{Begins}
 use Rattle.ledger.specs.Workers.{Concerns, WorkerKnows}

@@ -15,7 +15,7 @@ use Rattle.steps.specs.declared.RecoveryPlace.TheVariants.{At}
 use Rattle.memory.specs.declared.Copy.TheVariants.{Cached, Persisted}
 use Rattle.memory.specs.Block.{Block, Field, get}
 use Rattle.memory.specs.Block.Field.{word, status, body, worker, recovery}
-use Rattle.memory.specs.Content.{word_in, count_in, crash_copied, idled}
+use Rattle.memory.specs.Content.{word_in, crash_copied, idled}
 use Rattle.memory.specs.Fields.{Whole}
 use Rattle.memory.specs.StoreLaws.{recovery_other, idled_other}
 use Rattle.memory.specs.CopyLaws.{crash_word, crash_status, crash_body}

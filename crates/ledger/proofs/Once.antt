@@ -1,5 +1,5 @@
 -- Every instant belongs to an operation that runs then, with the body that was submitted; and an operation has one instant at most.
-use Rattle.std.specs.Prelude.{◌≡◌, ◌≢◌, ◌⊎◌, Bool, List}
+use Rattle.std.specs.Prelude.{◌≡◌, ◌≢◌, Bool, List}
 use Rattle.std.proofs.Math.Path.{refl}
 use Rattle.std.proofs.Common.{sym, ◌∙◌, ap, subst, ⊎_elim, eqb-true}
 use Rattle.std.proofs.Math.Bool.{true, false, cond}

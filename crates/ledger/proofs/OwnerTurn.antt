@@ -26,7 +26,6 @@ use Rattle.ledger.specs.Fits.{CellsFit, fit_applied}
 use Rattle.ledger.specs.Meaning.{Has, expected_of}
 use Rattle.ledger.specs.Agree.{NoneBelongs}
 use Rattle.ledger.specs.Rule.{Rule, OwnersOnly}
-use Rattle.ledger.specs.Rule
 use Rattle.ledger.specs.Fire.{fires_same}
 use Rattle.ledger.specs.Know.{Shared, at_install, at_install_clear, at_persist, at_persist_clear, at_decide, at_settle, at_settle_clear, at_swap, at_swap_back, at_swap_clear}
 use Rattle.ledger.proofs.WorkStep.{none_belongs}

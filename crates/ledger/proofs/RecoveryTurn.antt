@@ -33,7 +33,6 @@ use Rattle.ledger.proofs.PlanFits.{recovery_fits}
 use Rattle.ledger.specs.Meaning.{at_has, expected_of, desired_of, stands}
 use Rattle.ledger.specs.Agree.{NoneBelongs}
 use Rattle.ledger.specs.Rule.{Rule}
-use Rattle.ledger.specs.Rule
 use Rattle.ledger.specs.Fire.{wrote}
 use Rattle.ledger.specs.Know.{Proper}
 use Rattle.ledger.specs.NextKnown.{points, points_not}

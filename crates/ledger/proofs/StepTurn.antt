@@ -28,7 +28,6 @@ use Rattle.ledger.proofs.PlanFits.{Placed, PlanFits, plan_fits, dirty_plain}
 use Rattle.ledger.specs.Meaning.{Has, expected_of}
 use Rattle.ledger.specs.Agree.{cached_free}
 use Rattle.ledger.specs.Rule.{Rule, OwnersOnly}
-use Rattle.ledger.specs.Rule
 use Rattle.ledger.specs.Rely.{rely}
 use Rattle.ledger.specs.Know.{Job, Knows, Shared, at_install, job_stable}
 use Rattle.ledger.specs.NextKnown.{same_cell, NextKnown}

@@ -35,7 +35,6 @@ use Rattle.ledger.proofs.PlanFits.{dirty_plain, dirty_pointer}
 use Rattle.ledger.specs.Meaning.{Has, has-at, at_has, expected_of, desired_of, stands}
 use Rattle.ledger.specs.Agree.{AllBelong, NoneBelongs, Agrees, cached_undecided, cached_clean, cached_free}
 use Rattle.ledger.specs.Rule.{Rule, OwnersOnly}
-use Rattle.ledger.specs.Rule
 use Rattle.ledger.specs.Rely.{Rely, Is, rely}
 use Rattle.ledger.specs.NextKnown.{same_cell, points, points_not, may, NextKnown}
 use Rattle.ledger.specs.Know.{upto_suc, Proper, Settled, Installed, Removed, Knows, Shared, at_install, at_install_clear, at_persist, at_persist_clear, at_decide, at_settle, at_settle_clear, at_swap, at_swap_back, at_swap_clear, installed_stable, removed_stable}

@@ -11,7 +11,7 @@ use Rattle.codes.specs.Row.{worker_of}
 use Rattle.memory.specs.declared.Copy.{Copy}
 use Rattle.memory.specs.declared.Copy.TheVariants.{Cached, Persisted}
 use Rattle.memory.specs.Block.{Block, slot, get}
-use Rattle.memory.specs.Block.Field.{word, status, body, worker, recovery}
+use Rattle.memory.specs.Block.Field.{word, status, body, worker}
 use Rattle.memory.specs.Content.{entry_in, crash_copied, worker_in, idled}
 use Rattle.memory.specs.Fresh.{fresh_block}
 use Rattle.memory.specs.Fields.{Whole, get_nowhere}
