@@ -12,10 +12,10 @@ test: ## the whole gate, from nothing; the last line is 'N passed, 0 failed'
 	@sh tests/gate.sh
 
 check: ## CRATE=name: the edit loop: prove one crate and what it stands on, quickly (not a verdict: make test is)
-	@rt dev $(or $(CRATE),$(error make check CRATE=name, one of those in crates.txt))
+	@cd crates/$(or $(CRATE),$(error make check CRATE=name, one of those in crates.txt)) && rt check
 
 fmt: ## lay out every file
-	@rt fmt
+	@for crate in crates/*; do (cd $$crate && rt fmt) || exit 1; done
 
 soak: ## FROM=1 TO=100000 JOBS=cores: random schedules and images beside the model, as many as told (after make test)
 	@sh tests/soak.sh '$(or $(FROM),1)' '$(or $(TO),100000)' $(JOBS)

@@ -2,11 +2,9 @@
 # Nanoseconds an event, and tick beside the model's tick on one long schedule; all timed from outside, the best of some rounds.
 goal=bench
 . tests/need-kit.sh
+. tests/programs.sh
 mkdir -p build
-rt check bench tick >build/bench.log 2>&1 || {
-    tail -n 5 build/bench.log
-    exit 1
-}
+build_programs bench tick || exit 1
 
 # once INPUT PROGRAM: the time of one run, in nanoseconds; what it writes goes nowhere, so that no disk is timed
 once() {
@@ -61,8 +59,7 @@ cmp -s build/bench.out build/bench.ours || {
 records=$(($(wc -l <build/bench.out) - 1))
 echo "tick: $records records, $(tenths $((ours * 10 / records))) ns a record; the model in C, gcc -O2: $(tenths $((model * 10 / records))) ns; ratio $(awk "BEGIN { printf \"%.2f\", $ours / $model }") of the best, $middle in the middle of 21 rounds"
 
-rt staticlib image >build/staticlib.log 2>&1 || {
-    tail -n 5 build/staticlib.log
+build_archive || {
     echo "recovery: not timed, its archive could not be built"
     exit 1
 }

@@ -2,11 +2,11 @@
 # Proves and builds tick and trace, and shows with trace a power cut in the middle of a swap: run (a) of document 01.
 goal=demo
 . tests/need-kit.sh
+. tests/programs.sh
 mkdir -p build
-echo "proving and building tick and trace; the first time this takes minutes (build/demo.log has the details)"
-rt check tick trace >build/demo.log 2>&1 || {
-    tail -n 5 build/demo.log
-    echo "make demo: not proved; see build/demo.log" >&2
+echo "proving and building tick and trace; the first time this takes minutes (build/tick.log and build/trace.log have the details)"
+build_programs tick trace || {
+    echo "make demo: not proved; see build/tick.log and build/trace.log" >&2
     exit 1
 }
 cat <<'TEXT'

@@ -1,7 +1,9 @@
 #!/bin/sh
-# The whole gate: the layout, rt ci once, then every other check on what rt ci left. The last line is rt ci's.
+# The whole gate: rt ci once, at the top and over every crate, then every other check on the programs and the archive that are built from
+# what it passed. The last line is rt ci's.
 goal=test
 . tests/need-kit.sh
+. tests/programs.sh
 mkdir -p build
 
 fail() {
@@ -9,9 +11,6 @@ fail() {
     exit 1
 }
 
-rt fmt --check || fail "layout: run 'make fmt'"
-
-# build/ci.log and not target/, which rt ci removes
 { rt ci 2>&1; echo $? >build/ci.status; } | tee build/ci.log
 [ "$(cat build/ci.status)" = 0 ] || fail "rt ci; see build/ci.log"
 last=$(tail -n 1 build/ci.log)
@@ -19,10 +18,14 @@ case $last in
 [1-9]*' passed, 0 failed') ;;
 *) fail "rt ci ended with '$last'" ;;
 esac
+# an edit that is bad shows nothing, and rt ci passes all the same
+if grep -q '^rt: ok.*, [0-9]* bad' build/ci.log; then
+    fail "a must-fail edit is bad; see build/ci.log"
+fi
+grep -q '^rt: ok' build/ci.log || fail "rt ci did not say that it is well"
 
-# what each crate's check took, for docs/ARCHITECTURE.md
-echo "seconds: $(sed -n 's/^rt: \([a-z]*\) proved (\([0-9]*\) s).*/\1 \2/p' build/ci.log | sort -k2 -n -r | tr '\n' ',' | sed 's/,$//; s/,/, /g')"
-
+build_programs tick trace vectors bench || fail "the programs could not be built"
+build_archive || fail "the archive could not be built"
 for check in tests/checks/*.sh; do
     sh "$check" || fail "$check"
 done

@@ -48,7 +48,7 @@ wanted=$parts
 if [ -x build/model/compare_images ]; then
     wanted=$((2 * parts))
 else
-    echo "soak: without images; 'rt staticlib image' makes what they need"
+    echo "soak: without images; 'make test' makes what they need"
 fi
 mkdir -p build
 # a part that fails makes xargs end with 123, when all parts are done; more than that is xargs' own

@@ -7,11 +7,11 @@ case $prefix in
 esac
 goal=install
 . tests/need-kit.sh
+. tests/programs.sh
 archive=target/staticlib/libimage.a
 mkdir -p build
 # also where there is an archive: it may be of an earlier state of the sources
-rt staticlib image >build/staticlib.log 2>&1 || {
-    tail -n 5 build/staticlib.log
+build_archive || {
     echo "make install: the archive could not be proved and built; see build/staticlib.log" >&2
     exit 1
 }

@@ -26,7 +26,8 @@ def files(top, *endings):
 
 
 def is_proof(path):
-    return os.path.basename(path) in ("Proof.antt", "Answers.antt", "Invariants.antt")
+    folder, name = os.path.split(path)
+    return "/proofs/" in folder + "/" and os.path.basename(folder) != "proofs" and name in ("Proof.antt", "Answers.antt", "Invariants.antt")
 
 
 def read(path):

@@ -1,5 +1,5 @@
 #!/bin/sh
-# Each program that rt ci built writes, from here too, what its file stdout has, and ends well; one with a folder data is run there.
+# Each program writes, from here too, what its file stdout has, and ends well; one with a folder data is run there.
 root=$PWD
 mkdir -p build
 bad=0

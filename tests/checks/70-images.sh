@@ -4,10 +4,9 @@ command -v gcc >/dev/null 2>&1 || {
     echo "images: skipped, it needs gcc"
     exit 0
 }
-mkdir -p build
-rt staticlib image >build/staticlib.log 2>&1 || {
-    tail -n 5 build/staticlib.log
-    echo "images: rt staticlib image failed; see build/staticlib.log"
+. tests/programs.sh
+build_archive || {
+    echo "images: the archive could not be proved and built; see build/staticlib.log"
     exit 1
 }
 sh tests/model/build.sh || exit 1

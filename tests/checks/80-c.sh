@@ -9,10 +9,8 @@ work=build/c
 rm -rf $work
 mkdir -p $work
 archive=target/staticlib/libimage.a
-rt staticlib image >build/staticlib.log 2>&1 || {
-    tail -n 5 build/staticlib.log
-    exit 1
-}
+. tests/programs.sh
+build_archive || exit 1
 bad=0
 
 # try NAME COMPILER AND WORDS..: compiled without a warning, and run

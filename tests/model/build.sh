@@ -1,6 +1,6 @@
 #!/bin/sh
 # Builds the independent model (tick, trace), the generator of schedules and the ledger's check into build/model/; where the static library
-# of image recovery is (rt staticlib image), its comparison with the model and its speed beside it too.
+# of image recovery is (tests/programs.sh makes it), its comparison with the model and its speed beside it too.
 here=tests/model
 to=build/model
 mkdir -p $to

@@ -32,29 +32,29 @@ apart out at x y h l n =
 pub put_some : (out text : List ℕ) (at : ℕ) → 0 < length text → at + length text ≤ length out → filled out at ≢ put_of out at text
 put_some out text at h l = seen (λ (f : Filled). f.end) refl (put_end text out at l) (λ e. omega arith)
 
-pub put-byte-not-nothing : (out : List ℕ) (at b : ℕ) → at < length out → filled out at ≢ put_of out at (b ∷ [])
-put-byte-not-nothing out at b h = put_some out (b ∷ []) at (omega arith) (omega arith)
+pub put_byte_not_nothing : (out : List ℕ) (at b : ℕ) → at < length out → filled out at ≢ put_of out at (b ∷ [])
+put_byte_not_nothing out at b h = put_some out (b ∷ []) at (omega arith) (omega arith)
 
 -- where there is no room, nothing is put and the place stays
-pub put-byte-not-past-the-end : (out x : List ℕ) (at b : ℕ) → length out ≤ at → filled x (at + 1) ≢ put_of out at (b ∷ [])
-put-byte-not-past-the-end out x at b h = rw (put_full out at (b ∷ []) h) (by (λ (f : Filled). f.end) (λ e. omega arith))
+pub put_byte_not_past_the_end : (out x : List ℕ) (at b : ℕ) → length out ≤ at → filled x (at + 1) ≢ put_of out at (b ∷ [])
+put_byte_not_past_the_end out x at b h = rw (put_full out at (b ∷ []) h) (by (λ (f : Filled). f.end) (λ e. omega arith))
 
-pub put-text-not-nothing : (out text : List ℕ) (at : ℕ) → 0 < length text → at + length text ≤ length out → filled out at ≢ put_of out at text
-put-text-not-nothing out text at h l = put_some out text at h l
+pub put_text_not_nothing : (out text : List ℕ) (at : ℕ) → 0 < length text → at + length text ≤ length out → filled out at ≢ put_of out at text
+put_text_not_nothing out text at h l = put_some out text at h l
 
-pub put-text-not-a-longer-buffer : (out x text : List ℕ) (at r : ℕ) → length x ≢ length out → filled x r ≢ put_of out at text
-put-text-not-a-longer-buffer out x text at r n = seen (λ (f : Filled). length f.bytes) refl (put_length out at text) n
+pub put_text_not_a_longer_buffer : (out x text : List ℕ) (at r : ℕ) → length x ≢ length out → filled x r ≢ put_of out at text
+put_text_not_a_longer_buffer out x text at r n = seen (λ (f : Filled). length f.bytes) refl (put_length out at text) n
 
-pub put-text-not-cut-where-there-is-room : (out x text : List ℕ) (at r : ℕ) → at + length text ≤ length out → r ≢ at + length text → filled x r ≢ put_of out at text
-put-text-not-cut-where-there-is-room out x text at r h n = seen (λ (f : Filled). f.end) refl (put_end text out at h) n
+pub put_text_not_cut_where_there_is_room : (out x text : List ℕ) (at r : ℕ) → at + length text ≤ length out → r ≢ at + length text → filled x r ≢ put_of out at text
+put_text_not_cut_where_there_is_room out x text at r h n = seen (λ (f : Filled). f.end) refl (put_end text out at h) n
 
 -- 0 has a digit too; the digits of 12 are 1 and 2, in this order
-pub put-decimal-not-nothing : (out : List ℕ) (at n : ℕ) → at + length (decimal_of n) ≤ length out → filled out at ≢ put_of out at (decimal_of n)
-put-decimal-not-nothing out at n h = put_some out (decimal_of n) at (decimal_some n) h
+pub put_decimal_not_nothing : (out : List ℕ) (at n : ℕ) → at + length (decimal_of n) ≤ length out → filled out at ≢ put_of out at (decimal_of n)
+put_decimal_not_nothing out at n h = put_some out (decimal_of n) at (decimal_some n) h
 
-pub put-decimal-not-the-ones-first : (out : List ℕ) (at : ℕ) → at + 2 ≤ length out → put_of out at (50 ∷ 49 ∷ []) ≢ put_of out at (decimal_of 12)
+pub put_decimal_not_the_ones_first : (out : List ℕ) (at : ℕ) → at + 2 ≤ length out → put_of out at (50 ∷ 49 ∷ []) ≢ put_of out at (decimal_of 12)
 unfolding decimal_of digits_of
-put-decimal-not-the-ones-first out at h = apart out at (50 ∷ 49 ∷ []) (decimal_of 12) h h (differ (λ (s : List ℕ). get_or s 0 0) refl)
+put_decimal_not_the_ones_first out at h = apart out at (50 ∷ 49 ∷ []) (decimal_of 12) h h (differ (λ (s : List ℕ). get_or s 0 0) refl)
 
 -- two answers with another first letter give other lines
 letter : (i : ℕ) (a : Answer) → 1 < length (said a) → get_or (line_of i a) (length (decimal_of i) + 1) 0 ≡ get_or (said a) 1 0
@@ -69,25 +69,25 @@ lines_apart out at i a b h k l n =
     apart out at (line_of i a) (line_of i b) (omega (arith, line_length i a)) (omega (arith, line_length i b))
     (seen (λ (s : List ℕ). get_or s (length (decimal_of i) + 1) 0) (letter i a k) (letter i b l) n)
 
-pub line-some : (i : ℕ) (a : Answer) → 0 < length (line_of i a)
+pub line_some : (i : ℕ) (a : Answer) → 0 < length (line_of i a)
 unfolding line_of
-line-some i a = omega (arith, length-append (decimal_of i ++ said a) (10 ∷ []))
+line_some i a = omega (arith, length-append (decimal_of i ++ said a) (10 ∷ []))
 
-pub put-line-not-nothing : (out : List ℕ) (at i : ℕ) (a : Answer) → at + 45 ≤ length out → filled out at ≢ put_of out at (line_of i a)
-put-line-not-nothing out at i a h = put_some out (line_of i a) at (line-some i a) (omega (arith, line_length i a))
+pub put_line_not_nothing : (out : List ℕ) (at i : ℕ) (a : Answer) → at + 45 ≤ length out → filled out at ≢ put_of out at (line_of i a)
+put_line_not_nothing out at i a h = put_some out (line_of i a) at (line_some i a) (omega (arith, line_length i a))
 
-pub put-line-not-failed-always : (out : List ℕ) (at i : ℕ) → at + 45 ≤ length out → put_of out at (line_of i (Answered Failed)) ≢ put_of out at (line_of i (Answered Succeeded))
-put-line-not-failed-always out at i h = lines_apart out at i (Answered Failed) (Answered Succeeded) h (omega arith) (omega arith) (λ e. omega arith)
+pub put_line_not_failed_always : (out : List ℕ) (at i : ℕ) → at + 45 ≤ length out → put_of out at (line_of i (Answered Failed)) ≢ put_of out at (line_of i (Answered Succeeded))
+put_line_not_failed_always out at i h = lines_apart out at i (Answered Failed) (Answered Succeeded) h (omega arith) (omega arith) (λ e. omega arith)
 
-pub put-line-not-moved-where-it-waits : (out : List ℕ) (at i : ℕ) → at + 45 ≤ length out → put_of out at (line_of i Moved) ≢ put_of out at (line_of i Waits)
-put-line-not-moved-where-it-waits out at i h = lines_apart out at i Moved Waits h (omega arith) (omega arith) (λ e. omega arith)
+pub put_line_not_moved_where_it_waits : (out : List ℕ) (at i : ℕ) → at + 45 ≤ length out → put_of out at (line_of i Moved) ≢ put_of out at (line_of i Waits)
+put_line_not_moved_where_it_waits out at i h = lines_apart out at i Moved Waits h (omega arith) (omega arith) (λ e. omega arith)
 
 -- the values are those of the persisted copies: "= 5" is wrong while 5 is cached alone
-pub put-last-not-the-cached : (out : List ℕ) (at : ℕ) → at + 4 ≤ length out
+pub put_last_not_the_cached : (out : List ℕ) (at : ℕ) → at + 4 ≤ length out
     → put_of out at (61 ∷ 32 ∷ 53 ∷ 10 ∷ []) ≢ put_of out at (last_line (put_word (fresh_block 1 1 1) 0 (Plain 5 false)))
 unfolding last_line values_below value_of sort_of slot B.at store decimal_of digits_of
-put-last-not-the-cached out at h = apart out at (61 ∷ 32 ∷ 53 ∷ 10 ∷ []) (61 ∷ 32 ∷ 48 ∷ 10 ∷ []) h h (differ (λ (s : List ℕ). get_or s 2 0) refl)
+put_last_not_the_cached out at h = apart out at (61 ∷ 32 ∷ 53 ∷ 10 ∷ []) (61 ∷ 32 ∷ 48 ∷ 10 ∷ []) h h (differ (λ (s : List ℕ). get_or s 2 0) refl)
 
-pub put-last-not-nothing : (out : List ℕ) (at : ℕ) (m : Block) → at + 1346 ≤ length out → filled out at ≢ put_of out at (last_line m)
+pub put_last_not_nothing : (out : List ℕ) (at : ℕ) (m : Block) → at + 1346 ≤ length out → filled out at ≢ put_of out at (last_line m)
 unfolding last_line
-put-last-not-nothing out at m h = put_some out (last_line m) at (omega (arith, length-append (61 ∷ spaced (values_below m (words_shown m))) (10 ∷ []))) (omega (arith, last_length m))
+put_last_not_nothing out at m h = put_some out (last_line m) at (omega (arith, length-append (61 ∷ spaced (values_below m (words_shown m))) (10 ∷ []))) (omega (arith, last_length m))

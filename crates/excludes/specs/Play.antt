@@ -15,7 +15,7 @@ use Rattle.play.specs.Tick.{Played, begun_in, play_of, closing}
 use Rattle.play.specs.Done.{Done, done, done_from, turns_for, played_into}
 use Rattle.play.specs.Split.{head_for, record_goes, unknown_ends, short_rests}
 use Rattle.excludes.specs.Differ.{by}
-use Rattle.excludes.specs.Answers.{apart, put_some, line-some}
+use Rattle.excludes.specs.Answers.{apart, put_some, line_some}
 
 -- an output with room for a line, and what stands at the front of the input
 module _ (m y : Block) (s : Stage) (x out z : List ℕ) (r : Progress) where
@@ -59,4 +59,4 @@ pub finish_not_silent_at_a_cut_record : (m : Block) (i b : ℕ) (bs out : List �
 finish_not_silent_at_a_cut_record m i b bs out h =
     let k = length-append (line_of i (Refused 2)) (last_line m) in
     apart out 0 (last_line m) (line_of i (Refused 2) ++ last_line m) (omega (arith, last_length m)) (omega (arith, k, line_length i (Refused 2), last_length m))
-    (by (λ (t : List ℕ). length t) (λ e. omega (arith, k, line-some i (Refused 2))))
+    (by (λ (t : List ℕ). length t) (λ e. omega (arith, k, line_some i (Refused 2))))

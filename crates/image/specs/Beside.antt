@@ -1,7 +1,7 @@
 -- A memory in recovery beside the image of its cached copy: the machine plans the same step, and its effect is the same.
 use Rattle.std.proofs.Math.Path.{◌≡◌, refl, sym, ap}
 use Rattle.std.proofs.Common.{◌∙◌, arith, eqb-true, ltb-true}
-use Rattle.std.specs.Prelude.{Bool, cond, ◌&&◌, ℕ, suc, ◌+◌, ◌-◌, ◌*◌, ◌/◌, ◌<◌, ◌^◌, eqb, ltb}
+use Rattle.std.specs.Prelude.{Bool, cond, ◌&&◌, ℕ, suc, ◌+◌, ◌*◌, ◌/◌, ◌<◌, ◌^◌, eqb, ltb}
 use Rattle.std.proofs.Math.Bool.{true, false}
 use mathlib.Core.List.{List}
 use Rattle.std.proofs.lemmas.Bool.{eqb-false}

@@ -19,8 +19,7 @@ use Rattle.steps.specs.Plan.{is_free}
 use Rattle.memory.specs.declared.Copy.TheVariants.{Persisted}
 use Rattle.memory.specs.Block.{Block}
 use Rattle.memory.specs.Content as C
-use Rattle.memory.specs.Fresh.{within, good_sizes}
-use Rattle.events.specs.declared.Event.{Event}
+use Rattle.memory.specs.Fresh.{within}
 use Rattle.events.specs.First.{and_first, and_second}
 use Rattle.image.specs.Layout.{word_of, part_of, count_in, entry_in}
 use Rattle.image.specs.Check.{some_below, bad_sizes, is_bad, bad_status, bad_entry, bad_at, bad_body, is_neither, has_within, has_address, bad_target, bad_pointer, bad_pointer_at, image_refusal}
@@ -28,6 +27,7 @@ use Rattle.image.specs.CheckLaws.{none_below, below_all}
 use Rattle.image.specs.Good.{good_back}
 use Rattle.image.specs.OfMemory.{image_of, Fits, image_length, word_read, status_read, count_read, entry_read}
 use Rattle.ledger.specs.Statement.{body_in, memory_at}
+use Rattle.ledger.specs.Passes.{EveryImagePasses}
 use Rattle.ledger.specs.Update.{clash}
 use Rattle.ledger.specs.Cells.{cell_of, Body}
 use Rattle.ledger.specs.View.{view}
@@ -39,9 +39,6 @@ use Rattle.ledger.proofs.Instant.{inv}
 use Rattle.ledger.specs.Ranges.{ranges}
 use Rattle.ledger.specs.Small.{small_fits}
 use Rattle.ledger.proofs.SmallKept.{always_small}
-
-abbrev pub EveryImagePasses : Type 0
-EveryImagePasses = (n k w : ℕ) → good_sizes n k w ≡ true → (es : List Event) (i : ℕ) → image_refusal n k (image_of Persisted (memory_at n k w es i) n k) ≡ 0
 
 -- what is in range is what the checks ask of a status, of a word, of an entry
 status_passes : (s : Status) → GoodStatus s → is_bad s ≡ false

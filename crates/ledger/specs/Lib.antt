@@ -25,6 +25,7 @@ pub mod Invariant
 pub mod Keep
 pub mod Read
 pub mod Small
+pub mod Passes
 pub mod Runtime
 pub mod RecoverySteps
 pub mod OverBytes

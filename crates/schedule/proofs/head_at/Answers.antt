@@ -1,4 +1,3 @@
-use Rattle.std.proofs.Common.{rules}
 use Rattle.schedule.proofs.CodeLaws.{head_end, head_inside}
 use Rattle.schedule.proofs.head_at.Goals as goal
 

@@ -1,4 +1,4 @@
-use Rattle.answers.proofs.LineLaws.{said_letter, said_letters, said_figure, said_outcome}
+use Rattle.answers.proofs.LineLaws.{said_letters, said_figure}
 use Rattle.std.proofs.Common.{rules}
 use Rattle.answers.proofs.line.put_answer.Goals as goal
 

@@ -1,10 +1,6 @@
-use mathlib.Core.Path.{◌≡◌, refl}
-use Prim.Native.Nat.{◌≤◌, ◌-◌}
+use mathlib.Core.Path.{refl}
 use Rattle.std.proofs.Common.{arith}
-use lib.ListN.{length}
-use Rattle.answers.specs.Put.{filled, put_of}
-use Rattle.answers.specs.Line.{spaced, values_below}
-use Rattle.answers.proofs.LineLaws.{values_none, values_next, values_end}
+use Rattle.answers.proofs.LineLaws.{values_none, values_next}
 use Rattle.std.proofs.Common.{rules}
 use Rattle.answers.proofs.line.put_values.Goals as goal
 

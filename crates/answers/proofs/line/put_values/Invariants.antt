@@ -1,11 +1,8 @@
-use mathlib.Core.Path.{◌≡◌, refl}
+use mathlib.Core.Path.{◌≡◌}
 use Prim.Native.Nat.{◌≤◌, ◌-◌}
-use Rattle.std.proofs.Common.{arith}
 use lib.ListN.{length}
 use Rattle.answers.specs.Put.{filled, put_of}
 use Rattle.answers.specs.Line.{spaced, values_below}
-use Rattle.answers.proofs.LineLaws.{values_none, values_next, values_end}
-use Rattle.std.proofs.Common.{rules}
 use Rattle.answers.proofs.line.put_values.Given as goal
 
 abbrev pub invariant-loop-a : goal.invariant-loop-a

@@ -1,9 +1,6 @@
-use mathlib.Core.Path.{◌≡◌, refl}
-use Prim.Native.Nat.{◌≤◌, ◌-◌}
+use mathlib.Core.Path.{refl}
 use Rattle.std.proofs.Common.{arith}
-use lib.ListN.{length, take}
-use Rattle.answers.specs.Put.{filled, put_of}
-use Rattle.answers.proofs.TextLaws.{text_none, text_next, text_end}
+use Rattle.answers.proofs.TextLaws.{text_none, text_next}
 use Rattle.std.proofs.Common.{rules}
 use Rattle.answers.proofs.text.put_text.Goals as goal
 

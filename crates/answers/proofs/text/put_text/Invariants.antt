@@ -1,10 +1,7 @@
-use mathlib.Core.Path.{◌≡◌, refl}
+use mathlib.Core.Path.{◌≡◌}
 use Prim.Native.Nat.{◌≤◌, ◌-◌}
-use Rattle.std.proofs.Common.{arith}
 use lib.ListN.{length, take}
 use Rattle.answers.specs.Put.{filled, put_of}
-use Rattle.answers.proofs.TextLaws.{text_none, text_next, text_end}
-use Rattle.std.proofs.Common.{rules}
 use Rattle.answers.proofs.text.put_text.Given as goal
 
 abbrev pub invariant-loop-i : goal.invariant-loop-i

@@ -1,10 +1,6 @@
-use mathlib.Core.Path.{◌≡◌, refl}
-use mathlib.Core.Bool.{false}
-use Prim.Native.Nat.{◌≤◌, ◌-◌}
+use mathlib.Core.Path.{refl}
 use Rattle.std.proofs.Common.{arith}
 use Rattle.image.specs.Check.{some_below}
-use Rattle.image.specs.CheckLaws.{below_none}
-use Rattle.image.specs.Claims.{bad_descriptors}
 use Rattle.image.proofs.ImageLaws.{descriptors_status, descriptors_body, descriptors_next}
 use Rattle.std.proofs.Common.{rules}
 use Rattle.image.proofs.check.descriptors_bad.Goals as goal

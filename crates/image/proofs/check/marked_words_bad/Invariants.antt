@@ -1,12 +1,7 @@
-use mathlib.Core.Path.{◌≡◌, refl}
+use mathlib.Core.Path.{◌≡◌}
 use mathlib.Core.Bool.{false}
 use Prim.Native.Nat.{◌≤◌, ◌-◌}
-use Rattle.std.proofs.Common.{arith}
-use Rattle.image.specs.Check.{some_below}
-use Rattle.image.specs.CheckLaws.{below_none}
 use Rattle.image.specs.Claims.{bad_marked_words}
-use Rattle.image.proofs.ImageLaws.{marked_found, marked_next}
-use Rattle.std.proofs.Common.{rules}
 use Rattle.image.proofs.check.marked_words_bad.Given as goal
 
 abbrev pub invariant-loop-a : goal.invariant-loop-a

@@ -1,4 +1,4 @@
-use Rattle.image.proofs.ImageLaws.{few_words, few_descriptors, refuse_sizes, refuse_content}
+use Rattle.image.proofs.ImageLaws.{refuse_sizes, refuse_content}
 use Rattle.std.proofs.Common.{rules}
 use Rattle.image.proofs.check.refuse.Goals as goal
 

@@ -1,9 +1,6 @@
-use mathlib.Core.Path.{◌≡◌, refl}
-use mathlib.Core.Bool.{false}
-use Prim.Native.Nat.{◌≤◌, ◌-◌}
+use mathlib.Core.Path.{refl}
 use Rattle.std.proofs.Common.{arith}
-use Rattle.image.specs.Check.{some_below, bad_words}
-use Rattle.image.specs.CheckLaws.{below_none}
+use Rattle.image.specs.Check.{some_below}
 use Rattle.image.proofs.ImageLaws.{words_found, words_next}
 use Rattle.std.proofs.Common.{rules}
 use Rattle.image.proofs.check.words_bad.Goals as goal

@@ -1,11 +1,7 @@
-use mathlib.Core.Path.{◌≡◌, refl}
+use mathlib.Core.Path.{◌≡◌}
 use mathlib.Core.Bool.{false}
 use Prim.Native.Nat.{◌≤◌, ◌-◌}
-use Rattle.std.proofs.Common.{arith}
-use Rattle.image.specs.Check.{some_below, bad_words}
-use Rattle.image.specs.CheckLaws.{below_none}
-use Rattle.image.proofs.ImageLaws.{words_found, words_next}
-use Rattle.std.proofs.Common.{rules}
+use Rattle.image.specs.Check.{bad_words}
 use Rattle.image.proofs.check.words_bad.Given as goal
 
 abbrev pub invariant-loop-a : goal.invariant-loop-a

@@ -1,9 +1,5 @@
 use Prim.Native.Nat.{◌≤◌, ◌-◌}
-use Rattle.std.proofs.Common.{arith}
-use mathlib.Core.Logic.{⊎_elim}
 use Rattle.image.specs.Claims.{MarkedBy}
-use Rattle.std.proofs.Common.{rules}
-use Rattle.image.proofs.ClaimLaws.{marks_first, marks_set, marks_kept, marks_last, address_small}
 use Rattle.image.proofs.claim.mark.Given as goal
 
 abbrev pub invariant-loop-i : goal.invariant-loop-i

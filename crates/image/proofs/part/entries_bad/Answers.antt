@@ -1,9 +1,7 @@
-use mathlib.Core.Path.{◌≡◌, refl}
-use mathlib.Core.Bool.{false}
-use Prim.Native.Nat.{◌≤◌, ◌-◌}
+use mathlib.Core.Path.{refl}
 use Rattle.std.proofs.Common.{arith}
-use Rattle.image.specs.Check.{some_below, bad_at}
-use Rattle.image.specs.CheckLaws.{below_found, below_next, below_none}
+use Rattle.image.specs.Check.{some_below}
+use Rattle.image.specs.CheckLaws.{below_found, below_next}
 use Rattle.std.proofs.Common.{rules}
 use Rattle.image.proofs.part.entries_bad.Goals as goal
 

@@ -1,10 +1,7 @@
-use mathlib.Core.Path.{◌≡◌, refl}
+use mathlib.Core.Path.{◌≡◌}
 use mathlib.Core.Bool.{false}
 use Prim.Native.Nat.{◌≤◌, ◌-◌}
-use Rattle.std.proofs.Common.{arith}
 use Rattle.image.specs.Check.{some_below, bad_at}
-use Rattle.image.specs.CheckLaws.{below_found, below_next, below_none}
-use Rattle.std.proofs.Common.{rules}
 use Rattle.image.proofs.part.entries_bad.Given as goal
 
 abbrev pub invariant-loop-i : goal.invariant-loop-i

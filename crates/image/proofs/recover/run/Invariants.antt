@@ -1,11 +1,9 @@
 use mathlib.Core.Path.{◌≡◌}
 use Prim.Native.Nat.{◌≤◌, ◌-◌}
-use Rattle.std.proofs.Common.{arith}
 use Rattle.image.specs.Good.{Good}
 use Rattle.image.specs.Recover.{run_from}
 use Rattle.steps.specs.declared.RecoveryPlace.TheVariants.{At}
-use Rattle.image.proofs.RunLaws.{before, after_steps, visit_fits, visit_body, visit_kept, goes_within, goes-on, stops, goes_in, goes_out}
-use Rattle.std.proofs.Common.{rules}
+use Rattle.image.proofs.RunLaws.{before, after_steps}
 use Rattle.image.proofs.recover.run.Given as goal
 
 abbrev pub invariant-loop-d : goal.invariant-loop-d

@@ -1,4 +1,4 @@
-use Rattle.image.proofs.VisitLaws.{visit_none, visit_free, status_here}
+use Rattle.image.proofs.VisitLaws.{visit_none, visit_free}
 use Rattle.std.proofs.Common.{rules}
 use Rattle.image.proofs.recover.visit_any.Goals as goal
 

@@ -1,6 +1,5 @@
 use Rattle.std.proofs.Common.{rules}
-use Prim.Native.Nat.{◌-◌}
-use Rattle.image.proofs.VisitLaws.{Going, going_in, going_stops, address_fits, value_fits, going_halts, going_on, going_over}
+use Rattle.image.proofs.VisitLaws.{going_in, going_stops, address_fits, value_fits, going_halts, going_on, going_over}
 use Rattle.image.proofs.recover.visit_live.Goals as goal
 
 pub loop-i-init : goal.loop-i-init

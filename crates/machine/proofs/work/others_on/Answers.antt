@@ -1,10 +1,8 @@
-use mathlib.Core.Path.{◌≡◌, refl}
-use Prim.Native.Nat.{◌≤◌, ◌-◌}
-use mathlib.Core.Bool.{false}
+use mathlib.Core.Path.{refl}
 use Rattle.machine.specs.Step.{others_on}
 use Rattle.std.proofs.Common.{rules}
 use Rattle.std.proofs.Common.{arith}
-use Rattle.machine.proofs.StepLaws.{others_found, others_next, others_none}
+use Rattle.machine.proofs.StepLaws.{others_found, others_next}
 use Rattle.machine.proofs.work.others_on.Goals as goal
 
 pub loop-v-init : goal.loop-v-init

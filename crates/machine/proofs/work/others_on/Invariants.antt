@@ -1,10 +1,7 @@
-use mathlib.Core.Path.{◌≡◌, refl}
+use mathlib.Core.Path.{◌≡◌}
 use Prim.Native.Nat.{◌≤◌, ◌-◌}
 use mathlib.Core.Bool.{false}
 use Rattle.machine.specs.Step.{others_on}
-use Rattle.std.proofs.Common.{rules}
-use Rattle.std.proofs.Common.{arith}
-use Rattle.machine.proofs.StepLaws.{others_found, others_next, others_none}
 use Rattle.machine.proofs.work.others_on.Given as goal
 
 abbrev pub invariant-loop-v : goal.invariant-loop-v

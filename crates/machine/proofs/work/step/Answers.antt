@@ -1,4 +1,4 @@
-use Rattle.machine.proofs.StepLaws.{step_works, step_rests, rests}
+use Rattle.machine.proofs.StepLaws.{step_works}
 use Rattle.std.proofs.Common.{rules}
 use Rattle.machine.proofs.work.step.Goals as goal
 

@@ -1,4 +1,4 @@
-use Rattle.play.proofs.TurnLaws.{record_first, record_at, record_over}
+use Rattle.play.proofs.TurnLaws.{record_over}
 use Rattle.std.proofs.Common.{rules}
 use Rattle.play.proofs.record.record_turn.Goals as goal
 

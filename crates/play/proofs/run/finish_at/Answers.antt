@@ -1,4 +1,4 @@
-use Rattle.play.proofs.RunLaws.{close_none, close_cut}
+use Rattle.play.proofs.RunLaws.{close_cut}
 use Rattle.std.proofs.Common.{rules}
 use Rattle.play.proofs.run.finish_at.Goals as goal
 

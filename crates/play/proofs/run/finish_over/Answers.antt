@@ -1,4 +1,4 @@
-use Rattle.play.proofs.RunLaws.{close_good, close_bad}
+use Rattle.play.proofs.RunLaws.{close_bad}
 use Rattle.std.proofs.Common.{rules}
 use Rattle.play.proofs.run.finish_over.Goals as goal
 

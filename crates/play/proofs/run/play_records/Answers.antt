@@ -1,9 +1,5 @@
-use Prim.Native.Nat.{◌-◌, ◌≤◌}
-use mathlib.Core.Path.{◌≡◌, refl}
+use mathlib.Core.Path.{refl}
 use Rattle.std.proofs.Common.{arith}
-use lib.ListN.{length, drop}
-use Rattle.play.specs.Tick.{play_of}
-use Rattle.play.specs.Done.{done_from, played_into}
 use Rattle.play.proofs.RunLaws.{goes_in, goes-on, goes_no_further, goes_out}
 use Rattle.std.proofs.Common.{rules}
 use Rattle.play.proofs.run.play_records.Goals as goal

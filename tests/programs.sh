@@ -1,0 +1,22 @@
+# Sourced: build_programs NAME.. proves and builds programs into target/bin, build_archive the recovery into target/staticlib/libimage.a.
+# Their logs are build/NAME.log and build/staticlib.log. What was proved before is not proved again.
+build_programs() {
+    mkdir -p build target/bin
+    for program in "$@"; do
+        rm -f "crates/$program/out/$program"
+        in=/dev/null
+        [ ! -f "crates/$program/stdin" ] || in=$PWD/crates/$program/stdin
+        (cd "crates/$program" && rt run) <"$in" >"build/$program.log" 2>&1
+        cp "crates/$program/out/$program" target/bin/ 2>>"build/$program.log" || {
+            tail -n 5 "build/$program.log"
+            return 1
+        }
+    done
+}
+build_archive() {
+    mkdir -p build target/staticlib
+    (cd crates/image_c && rt lib) >build/staticlib.log 2>&1 && cp crates/image_c/out/libimage_c.a target/staticlib/libimage.a || {
+        tail -n 5 build/staticlib.log
+        return 1
+    }
+}
