@@ -5,11 +5,11 @@ use contract.Lifetimes.{lft_at}
 use denote.RattleType.{RattleType}
 use Rattle.std.specs.Prelude.{◌≤◌, length, take, ◌≡◌}
 use Rattle.feed.specs.Feed.{kept, kept_of}
-use Rattle.feed.proofs.read_on.Reads as Fn-read-on
-use Rattle.feed.proofs.keep.Reads as Fn-keep
+use Rattle.feed.proofs.read_on.Reads as FnReadOn
+use Rattle.feed.proofs.keep.Reads as FnKeep
 
-pub read-on : (T : RattleType) (L G D κs input buf have r input' buf' have' : _) → (lft_at 3 2 tt κs ⊑ T.lives → Fn-read-on.Asked T L G D κs (input, (buf, (have, tt)))) × (Fn-read-on.Learnt T L G D κs (input, (buf, (have, tt))) r (input', (buf', (have', tt))) → ((length buf'.now ≡ length buf.now) × ((r ≤ length buf'.now) × (take have buf'.now ≡ take have buf.now))) × (((have ≤ length buf.now → have ≤ r)) × ((length buf.now ≤ have → r ≡ length buf.now))))
+pub read-on : (T : RattleType) (L G D κs input buf have r input' buf' have' : _) → (lft_at 3 2 tt κs ⊑ T.lives → FnReadOn.Asked T L G D κs (input, (buf, (have, tt)))) × (FnReadOn.Learnt T L G D κs (input, (buf, (have, tt))) r (input', (buf', (have', tt))) → ((length buf'.now ≡ length buf.now) × ((r ≤ length buf'.now) × (take have buf'.now ≡ take have buf.now))) × (((have ≤ length buf.now → have ≤ r)) × ((length buf.now ≤ have → r ≡ length buf.now))))
 read-on _ _ _ _ _ _ _ _ _ _ _ _ = (λ outlives. outlives, λ given. given)
 
-pub keep : (κs buf from to r buf' from' to' : _) → Fn-keep.Asked κs (buf, (from, (to, tt))) × (Fn-keep.Learnt κs (buf, (from, (to, tt))) r (buf', (from', (to', tt))) → (kept buf'.now r ≡ kept_of buf.now from to) × (r ≤ length buf.now))
+pub keep : (κs buf from to r buf' from' to' : _) → FnKeep.Asked κs (buf, (from, (to, tt))) × (FnKeep.Learnt κs (buf, (from, (to, tt))) r (buf', (from', (to', tt))) → (kept buf'.now r ≡ kept_of buf.now from to) × (r ≤ length buf.now))
 keep _ _ _ _ _ _ _ _ = (tt, λ given. given)

@@ -2,7 +2,7 @@
 use Rattle.events.specs.Left.{left}
 use Rattle.machine.specs.Apply.{apply_of}
 use Rattle.std.specs.Prelude.{◌≡◌}
-use Rattle.machine.proofs.apply.Reads as Fn-apply
+use Rattle.machine.proofs.apply.Reads as FnApply
 
-pub apply : (κs m e r m' e' : _) → Fn-apply.Asked κs (m, (e, tt)) × (Fn-apply.Learnt κs (m, (e, tt)) r (m', (e', tt)) → left m'.now r ≡ apply_of m.now e)
+pub apply : (κs m e r m' e' : _) → FnApply.Asked κs (m, (e, tt)) × (FnApply.Learnt κs (m, (e, tt)) r (m', (e', tt)) → left m'.now r ≡ apply_of m.now e)
 apply _ _ _ _ _ _ = (tt, λ given. given)
