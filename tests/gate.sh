@@ -1,6 +1,6 @@
 #!/bin/sh
-# The whole gate: rt ci once, at the top and over every crate, then every other check on the programs and the archive that are built from
-# what it passed. The last line is rt ci's.
+# The whole gate: rt ci once, at the top and over every crate, then every other check on the programs that it built and on the archive.
+# The last line is rt ci's.
 goal=test
 . tests/need-kit.sh
 . tests/programs.sh
@@ -11,6 +11,7 @@ fail() {
     exit 1
 }
 
+: >build/ci.begun
 { rt ci 2>&1; echo $? >build/ci.status; } | tee build/ci.log
 [ "$(cat build/ci.status)" = 0 ] || fail "rt ci; see build/ci.log"
 last=$(tail -n 1 build/ci.log)
@@ -24,7 +25,7 @@ if grep -q '^rt: ok.*, [0-9]* bad' build/ci.log; then
 fi
 grep -q '^rt: ok' build/ci.log || fail "rt ci did not say that it is well"
 
-build_programs tick trace vectors bench || fail "the programs could not be built"
+take_programs tick trace vectors bench || fail "the programs could not be built"
 build_archive || fail "the archive could not be built"
 for check in tests/checks/*.sh; do
     sh "$check" || fail "$check"

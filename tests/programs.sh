@@ -1,4 +1,5 @@
-# Sourced: build_programs NAME.. proves and builds programs into target/bin, build_archive the recovery into target/staticlib/libimage.a.
+# Sourced: build_programs NAME.. proves and builds programs into target/bin, take_programs NAME.. takes those that rt ci has
+# built since build/ci.begun, and builds the others; build_archive proves and builds the recovery into target/staticlib/libimage.a.
 # Their logs are build/NAME.log and build/staticlib.log. What was proved before is not proved again.
 build_programs() {
     mkdir -p build target/bin
@@ -11,6 +12,16 @@ build_programs() {
             tail -n 5 "build/$program.log"
             return 1
         }
+    done
+}
+take_programs() {
+    mkdir -p target/bin
+    for taken in "$@"; do
+        if [ "crates/$taken/out/$taken" -nt build/ci.begun ]; then
+            cp "crates/$taken/out/$taken" target/bin/ || return 1
+        else
+            build_programs "$taken" || return 1
+        fi
     done
 }
 build_archive() {
