@@ -2,7 +2,7 @@ use mathlib.Core.Path.{refl}
 use Rattle.machine.specs.Step.{others_on}
 use Rattle.std.proofs.Common.{rules}
 use Rattle.std.proofs.Common.{arith}
-use Rattle.machine.proofs.StepLaws.{others_found, others_next}
+use Rattle.machine.proofs.StepLaws.{others_found, others_next, others_none}
 use Rattle.machine.proofs.work.others_on.Goals as goal
 
 pub loop-v-init : goal.loop-v-init
@@ -14,3 +14,6 @@ returns-then-other_on c = search (rules, others_found)
 
 pub loop-v-preserved : goal.loop-v-preserved
 loop-v-preserved c = (search (rules, others_next), omega arith)
+
+pub returns : goal.returns
+returns c = search (rules, others_none)
