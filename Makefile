@@ -8,7 +8,7 @@ help: ## these lines
 demo: ## prove and build tick and trace, and show a power cut in the middle of a swap
 	@sh tests/demo.sh
 
-test: ## the whole gate, from nothing; the last line is 'N passed, 0 failed'
+test: ## the whole gate (what an earlier run here has proved is kept); the last line is 'N passed, 0 failed'
 	@sh tests/gate.sh
 
 check: ## CRATE=name: the edit loop: prove one crate and what it stands on, quickly (not a verdict: make test is)

@@ -7,6 +7,7 @@ build_programs() {
         rm -f "crates/$program/out/$program"
         in=/dev/null
         [ ! -f "crates/$program/stdin" ] || in=$PWD/crates/$program/stdin
+        # how the run ends says nothing of the build (vectors is not in its data/ here): what counts is the program that it leaves
         (cd "crates/$program" && rt run) <"$in" >"build/$program.log" 2>&1
         cp "crates/$program/out/$program" target/bin/ 2>>"build/$program.log" || {
             tail -n 5 "build/$program.log"
