@@ -9,9 +9,9 @@ use std::io::Read;
 // One read of the input, behind the bytes that are kept; how many bytes there are then. As many as before: the input has ended, or
 // the read failed, or the buffer is full.
 pub fn read_on(input: &mut impl Read, buf: &mut [u8], have: usize) -> usize
-    ensures buf_len_unchanged { (length buf.new ≡ length buf.old) × ((result ≤ length buf.new) × (take have buf.new ≡ take have buf.old)) }
-    ensures lower_bound { have ≤ length buf.old → have ≤ result }
-    ensures value { length buf.old ≤ have → result ≡ length buf.old }
+    ensures what_was_kept { (length buf.new ≡ length buf.old) × ((result ≤ length buf.new) × (take have buf.new ≡ take have buf.old)) }
+    ensures no_fewer { have ≤ length buf.old → have ≤ result }
+    ensures full { length buf.old ≤ have → result ≡ length buf.old }
 {
     if buf.len() <= have {
         return buf.len();
@@ -25,8 +25,8 @@ pub fn read_on(input: &mut impl Read, buf: &mut [u8], have: usize) -> usize
 
 // The bytes from a place up to another go to the start; how many there are.
 pub fn keep(buf: &mut [u8], from: usize, to: usize) -> usize
-    ensures result_after { kept buf.new result ≡ kept_of buf.old from to }
-    ensures upper_bound { result ≤ length buf.old }
+    ensures moved { kept buf.new result ≡ kept_of buf.old from to }
+    ensures inside { result ≤ length buf.old }
 {
     if buf.len() < to {
         return 0;

@@ -1,7 +1,7 @@
 -- WHAT THE C RUNTIME MAY COUNT ON, stated of the routine's definition (`recover_of` of `image`) and of the machine: stop the machine after any history, take the image of
 -- persisted memory, which is what a crash leaves, and call the routine on it, as often as one likes, cut wherever one likes. No call is refused; the first call that
 -- answers complete leaves plain words with the ledger's values, and all descriptors Free; and an allowance of 160 is enough.
-use Rattle.std.specs.Prelude.{◌≡◌, ◌⊎◌, Bool, true, List, [], ◌∷◌, ℕ, ◌≤◌, ◌<◌, length}
+use Rattle.std.specs.Prelude.{◌≡◌, ◌⊎◌, Bool, true, List, ℕ, ◌≤◌, ◌<◌, length}
 use Rattle.word.specs.declared.Sort.TheVariants.{Plain}
 use Rattle.word.specs.declared.Status.TheVariants.{Free}
 use Rattle.memory.specs.declared.Copy.TheVariants.{Cached, Persisted}
@@ -14,11 +14,8 @@ use Rattle.image.specs.OfMemory.{image_of}
 use Rattle.image.specs.Recover.{recover_of}
 use Rattle.image.specs.Values.{value_in}
 use Rattle.ledger.specs.Statement.{memory_at, ledger}
-
 -- one call after the other, each with its allowance, on the bytes that the one before left
-abbrev pub calls : List ℕ → ℕ → ℕ → List ℕ → List ℕ
-calls [] n k x = x
-calls (s ∷ ss) n k x = calls ss n k (recover_of n k x s).bytes
+pub use Rattle.images.specs.Again.{calls}
 
 module _ (n k w : ℕ) (es : List Event) where
   -- what the history leaves in persisted memory

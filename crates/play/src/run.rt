@@ -95,8 +95,8 @@ fn play_records(m: &mut Memory, stage: Stage, input: &[u8], out: &mut [u8]) -> P
 
 // Plays records from the front of the input, as many as are there and as the output has room for the lines of.
 pub fn play(m: &mut Memory, stage: Stage, input: &[u8], out: &mut [u8]) -> Progress
-    ensures out_after { D.done m.new result out.new ≡ D.played_into m.old stage input.now out.old }
-    ensures used_in_bounds { (result.used ≤ length input.now) × (result.written ≤ length out.old) }
+    ensures played { D.done m.new result out.new ≡ D.played_into m.old stage input.now out.old }
+    ensures inside { (result.used ≤ length input.now) × (result.written ≤ length out.old) }
 {
     play_records(m, stage, input, out)
 }

@@ -2,5 +2,5 @@ use Rattle.std.proofs.Common.{rules}
 use Rattle.play.specs.Room.{progress_fits}
 use Rattle.play.proofs.run.play.Goals as goal
 
-pub returns-clause-used_in_bounds : goal.returns-clause-used_in_bounds
-returns-clause-used_in_bounds c = search (rules, progress_fits)
+pub returns-clause-inside : goal.returns-clause-inside
+returns-clause-inside c = search (rules, progress_fits)
