@@ -9,7 +9,7 @@ use steps::{Own, Place, RecoveryPlace, Worker};
 use word::Outcome;
 
 // A worker's row: what it is, what it owns, its current job, its place there, the entry, what it noted.
-#[derive(Clone, Copy)]
+#[derive(Clone, Copy, PartialEq, Eq, Debug)]
 pub struct Row {
     pub tag: u64,
     pub own: u64,
@@ -20,7 +20,7 @@ pub struct Row {
 }
 
 // Recovery's place: whether there is one, the descriptor, the steps done.
-#[derive(Clone, Copy)]
+#[derive(Clone, Copy, PartialEq, Eq, Debug)]
 pub struct RecoveryRow {
     pub on: u64,
     pub descriptor: u64,

@@ -1,4 +1,5 @@
 -- Opening, adding and removing: one law for each answer.
+use Rattle.std.specs.Prelude.{None, Option, Some, ℕ}
 use mathlib.Core.Path.{◌≡◌, sym, ap, ◌∙◌}
 use mathlib.Core.Bool.{Bool, true, false}
 use Prim.Native.Nat.{ℕ, zero, suc, ◌+◌, ◌-◌, ◌<◌, ◌≤◌}
@@ -12,8 +13,6 @@ use Rattle.steps.specs.declared.Worker.TheVariants.{Building}
 use Rattle.steps.specs.declared.Entry.{Entry}
 use Rattle.steps.specs.Plan.{is_free}
 use Rattle.memory.specs.declared.Copy.TheVariants.{Cached, Persisted}
-use Rattle.memory.specs.declared.Found.{Found}
-use Rattle.memory.specs.declared.Found.TheVariants.{Here, Missing}
 use Rattle.memory.specs.Block.{Block}
 use Rattle.memory.specs.Content.{status_in, count_in, put_count, entry_in, put_entry, clear_body, worker_in, put_worker}
 use Rattle.events.specs.declared.Answer.TheVariants.{Opened, Refused}
@@ -69,33 +68,33 @@ module _ (m : Block) (d : ℕ) where
 
 -- the lowest that does
 module _ (m : Block) where
-  pub lowest_next : (d : ℕ) (t : Bool) → lowest_below m d ≡ Missing → t ≡ qualifies m d → t ≡ false → lowest_below m (d + 1) ≡ Missing
+  pub lowest_next : (d : ℕ) (t : Bool) → lowest_below m d ≡ None → t ≡ qualifies m d → t ≡ false → lowest_below m (d + 1) ≡ None
   unfolding lowest_below
   lowest_next d t e f g = let z : d + 1 ≡ suc d = omega arith in rw (z, e, ← f, g)
 
-  here_stays : (i d k : ℕ) → lowest_below m d ≡ Here i → lowest_below m (d + k) ≡ Here i
+  here_stays : (i d k : ℕ) → lowest_below m d ≡ Some i → lowest_below m (d + k) ≡ Some i
   unfolding lowest_below
   here_stays i d zero e = let z : d + 0 ≡ d = omega arith in rw z e
   here_stays i d (suc k) e = let z : d + suc k ≡ suc (d + k) = omega arith in rw (z, here_stays i d k e)
 
-  first_here : (d : ℕ) → lowest_below m d ≡ Missing → true ≡ qualifies m d → lowest_below m (d + 1) ≡ Here d
+  first_here : (d : ℕ) → lowest_below m d ≡ None → true ≡ qualifies m d → lowest_below m (d + 1) ≡ Some d
   unfolding lowest_below
   first_here d e f = let z : d + 1 ≡ suc d = omega arith in rw (z, e, ← f)
 
-  pub lowest_here : (d k : ℕ) (t : Bool) → lowest_below m d ≡ Missing → d < k → t ≡ qualifies m d → t ≡ true → Here d ≡ lowest_below m k
+  pub lowest_here : (d k : ℕ) (t : Bool) → lowest_below m d ≡ None → d < k → t ≡ qualifies m d → t ≡ true → Some d ≡ lowest_below m k
   lowest_here d k t e l f g =
       let z : d + 1 + (k - 1 - d) ≡ k = omega arith in
       sym (rw z at (here_stays d (d + 1) (k - 1 - d) (first_here d e (sym g ∙ f))))
 
-  pub lowest_none : (d k : ℕ) → lowest_below m d ≡ Missing → d ≤ k → k ≤ d → Missing ≡ lowest_below m k
+  pub lowest_none : (d k : ℕ) → lowest_below m d ≡ None → d ≤ k → k ≤ d → None ≡ lowest_below m k
   lowest_none d k e l h = let z : k ≡ d = omega arith in rw z (sym e)
 
 -- opening
-module _ (m : Block) (w : ℕ) (f : Found) where
-  pub open_here : (d : ℕ) (a b : Block) → f ≡ Here d → a ≡ clear_body m d → b ≡ put_worker a w (Building d) → left b (Opened d) ≡ opened m w f
+module _ (m : Block) (w : ℕ) (f : Option ℕ) where
+  pub open_here : (d : ℕ) (a b : Block) → f ≡ Some d → a ≡ clear_body m d → b ≡ put_worker a w (Building d) → left b (Opened d) ≡ opened m w f
   open_here d a b e g h = rw (e, h, g)
 
-  pub open_missing : (x : Block) → f ≡ Missing → x ≡ m → left x (Refused 9) ≡ opened m w f
+  pub open_missing : (x : Block) → f ≡ None → x ≡ m → left x (Refused 9) ≡ opened m w f
   open_missing x e g = rw (e, g)
 
 -- adding: what is left to do from entry i down gives the same
@@ -157,5 +156,5 @@ module _ (d : ℕ) where
   unfolding removed_entry
   remove_past m x n i f l g = g ∙ rw (← f, le-ltb _ _ l)
 
-  pub remove_by : (m x : Block) (f g : Found) → f ≡ g → x ≡ removed_at m d g → x ≡ removed_at m d f
+  pub remove_by : (m x : Block) (f g : Option ℕ) → f ≡ g → x ≡ removed_at m d g → x ≡ removed_at m d f
   remove_by m x f g e h = rw e h

@@ -1,4 +1,5 @@
 -- The refusals: one law for each answer.
+use Rattle.std.specs.Prelude.{Option, ℕ}
 use mathlib.Core.Path.{◌≡◌, refl, ◌∙◌}
 use mathlib.Core.Bool.{Bool, true, false, not, ◌||◌}
 use mathlib.Core.List.{[], ◌∷◌}
@@ -9,7 +10,6 @@ use Rattle.steps.specs.declared.Entry.{Entry}
 use Rattle.steps.specs.declared.Worker.{Worker}
 use Rattle.steps.specs.declared.RecoveryPlace.{RecoveryPlace}
 use Rattle.memory.specs.declared.Copy.TheVariants.{Cached}
-use Rattle.memory.specs.declared.Found.{Found}
 use Rattle.memory.specs.declared.Sizes.{Sizes}
 use Rattle.memory.specs.Block.{Block}
 use Rattle.memory.specs.Content.{count_in, recovery_in}
@@ -47,7 +47,7 @@ module _ (m : Block) (w : ℕ) where
     step_law x i b t f g h k = k ∙ rw (e, h, f, g) (first_then (no_worker m w ∷ in_recovery m ∷ []) 16 (is_idle x || is_building x) refl)
 
   module _ (x : Worker) (a r : ℕ) where
-    pub open_law : (f : Found) (t : Bool) → a ≡ first_of (no_worker m w ∷ in_recovery m ∷ owns_something x ∷ []) → t ≡ is_missing f → r ≡ or_else a 9 t
+    pub open_law : (f : Option ℕ) (t : Bool) → a ≡ first_of (no_worker m w ∷ in_recovery m ∷ owns_something x ∷ []) → t ≡ is_missing f → r ≡ or_else a 9 t
         → r ≡ first_of (open_checks m w x f)
     open_law f t e g h = h ∙ rw (e, g) (first_then (no_worker m w ∷ in_recovery m ∷ owns_something x ∷ []) 9 (is_missing f) refl)
 
@@ -67,14 +67,14 @@ module _ (m : Block) (w : ℕ) where
         (rw (first_then (discard_checks m w x) 10 (no_address m e.address).holds refl)
         (first_then (no_worker m w ∷ in_recovery m ∷ not_building x ∷ no_address m e.address ∷ []) 11 (too_large e).holds refl))
 
-    pub remove_law : (c : ℕ) (f : Found) (b : ℕ) (s t : Bool) → a ≡ first_of (discard_checks m w x) → s ≡ (no_address m c).holds → b ≡ or_else a 10 s
+    pub remove_law : (c : ℕ) (f : Option ℕ) (b : ℕ) (s t : Bool) → a ≡ first_of (discard_checks m w x) → s ≡ (no_address m c).holds → b ≡ or_else a 10 s
         → t ≡ is_missing f → r ≡ or_else b 14 t → r ≡ first_of (remove_checks m w x c f)
     remove_law c f b s t e g h k l =
         l ∙ rw (h, e, g, k)
         (rw (first_then (discard_checks m w x) 10 (no_address m c).holds refl)
         (first_then (no_worker m w ∷ in_recovery m ∷ not_building x ∷ no_address m c ∷ []) 14 (is_missing f) refl))
 
-    pub add_law : (e : Entry) (d b n : ℕ) (f : Found) (s t : Bool) → d ≡ build_of x
+    pub add_law : (e : Entry) (d b n : ℕ) (f : Option ℕ) (s t : Bool) → d ≡ build_of x
         → a ≡ first_of (no_worker m w ∷ in_recovery m ∷ not_building x ∷ no_address m e.address ∷ too_large e ∷ [])
         → f ≡ entry_for Cached m d e.address → s ≡ is_missing f → t ≡ not s → b ≡ or_else a 13 t → n ≡ count_in Cached m d → r ≡ or_else b 12 (leb 4 n)
         → r ≡ first_of (add_checks m w x e)

@@ -1,5 +1,5 @@
 -- Opening, adding, removing, submitting, discarding, beginning a read: records 01 to 06 (the paper's section 2.2 and 5.1).
-use Rattle.std.specs.Prelude.{Bool, false, cond, not, ◌&&◌, ◌||◌, ℕ, zero, suc, ◌+◌, ◌-◌, eqb, ltb}
+use Rattle.std.specs.Prelude.{Bool, false, cond, not, ◌&&◌, ◌||◌, ℕ, zero, suc, ◌+◌, ◌-◌, eqb, ltb, None, Option, Some}
 use Rattle.steps.specs.declared.Own.{Own}
 use Rattle.steps.specs.declared.Own.TheVariants.{Operation, Read}
 use Rattle.steps.specs.declared.Place.TheVariants.{BackBody}
@@ -8,8 +8,6 @@ use Rattle.steps.specs.declared.Worker.TheVariants.{Idle, Building, Working, Rea
 use Rattle.steps.specs.declared.Entry.{Entry}
 use Rattle.steps.specs.Plan.{is_free}
 use Rattle.memory.specs.declared.Copy.TheVariants.{Cached, Persisted}
-use Rattle.memory.specs.declared.Found.{Found}
-use Rattle.memory.specs.declared.Found.TheVariants.{Here, Missing}
 use Rattle.memory.specs.Block.{Block}
 use Rattle.memory.specs.Content.{status_in, count_in, put_count, entry_in, put_entry, clear_body, worker_in, put_worker}
 use Rattle.events.specs.declared.Answer.TheVariants.{Opened, Refused}
@@ -37,18 +35,18 @@ unfoldable pub qualifies : Block → ℕ → Bool
 qualifies m d = is_free (status_in Cached m d) && (is_free (status_in Persisted m d) && not (owned_below m d 8))
 
 -- the lowest below k that qualifies
-abbrev pub found_or : Found → Found → Found
-found_or (Here d) f = Here d
-found_or Missing f = f
+abbrev pub found_or : Option ℕ → Option ℕ → Option ℕ
+found_or (Some d) f = Some d
+found_or None f = f
 
-unfoldable pub lowest_below : Block → ℕ → Found
-lowest_below m zero = Missing
-lowest_below m (suc d) = found_or (lowest_below m d) (cond (qualifies m d) (Here d) Missing)
+unfoldable pub lowest_below : Block → ℕ → Option ℕ
+lowest_below m zero = None
+lowest_below m (suc d) = found_or (lowest_below m d) (cond (qualifies m d) (Some d) None)
 
 -- open it; its cached body becomes zeros (where none qualifies, the table has refused 9 before)
-abbrev pub opened : Block → ℕ → Found → Left
-opened m w (Here d) = left (put_worker (clear_body m d) w (Building d)) (Opened d)
-opened m w Missing = left m (Refused 9)
+abbrev pub opened : Block → ℕ → Option ℕ → Left
+opened m w (Some d) = left (put_worker (clear_body m d) w (Building d)) (Opened d)
+opened m w None = left m (Refused 9)
 
 -- the descriptor that a worker is building; 0 where it is building none
 abbrev pub build_of : Worker → ℕ
@@ -81,9 +79,9 @@ moved_down (suc n) m d i = moved_down n (put_entry m d i (entry_in Cached m d (s
 unfoldable pub removed_entry : Block → ℕ → ℕ → Block
 removed_entry m d i = cond (ltb i (count_in Cached m d)) (put_count (moved_down (count_in Cached m d - 1 - i) m d i) d (count_in Cached m d - 1)) m
 
-abbrev pub removed_at : Block → ℕ → Found → Block
-removed_at m d (Here i) = removed_entry m d i
-removed_at m d Missing = m
+abbrev pub removed_at : Block → ℕ → Option ℕ → Block
+removed_at m d (Some i) = removed_entry m d i
+removed_at m d None = m
 
 -- 04: submit; 05: discard, the worker is idle, the body stays; 06: begin a read
 abbrev pub submitted : Block → ℕ → ℕ → Block

@@ -1,12 +1,11 @@
 -- For every public function: two results, or two final contents, that keep its promise coincide.
 use Rattle.std.specs.Prelude.{◌≡◌, Bool, [], ◌∷◌, ℕ}
-use Rattle.std.proofs.Common.{ap}
+use Rattle.std.proofs.Common.{ap, Option}
 use Rattle.word.specs.Coincide.{coincide}
 use Rattle.steps.specs.declared.Entry.{Entry}
 use Rattle.steps.specs.declared.Own.{Own}
 use Rattle.steps.specs.declared.Worker.{Worker}
 use Rattle.steps.specs.declared.RecoveryPlace.{RecoveryPlace}
-use Rattle.memory.specs.declared.Found.{Found}
 use Rattle.memory.specs.Block.{Block}
 use Rattle.events.specs.declared.Answer.{Answer}
 use Rattle.events.specs.Left.{Left, left}
@@ -23,16 +22,16 @@ build-of x r s = coincide
 pub owner-of : (o : Own) (d : ℕ) (r s : Bool) → r ≡ owner_of o d → s ≡ owner_of o d → r ≡ s
 owner-of o d r s = coincide
 
-pub lowest : (m : Block) (k : ℕ) (r s : Found) → r ≡ lowest_below m k → s ≡ lowest_below m k → r ≡ s
+pub lowest : (m : Block) (k : ℕ) (r s : Option ℕ) → r ≡ lowest_below m k → s ≡ lowest_below m k → r ≡ s
 lowest m k r s = coincide
 
-pub refuse_open : (m : Block) (w : ℕ) (x : Worker) (f : Found) (r s : ℕ) → r ≡ first_of (open_checks m w x f) → s ≡ first_of (open_checks m w x f) → r ≡ s
+pub refuse_open : (m : Block) (w : ℕ) (x : Worker) (f : Option ℕ) (r s : ℕ) → r ≡ first_of (open_checks m w x f) → s ≡ first_of (open_checks m w x f) → r ≡ s
 refuse_open m w x f r s = coincide
 
 pub refuse_add : (m : Block) (w : ℕ) (x : Worker) (e : Entry) (r s : ℕ) → r ≡ first_of (add_checks m w x e) → s ≡ first_of (add_checks m w x e) → r ≡ s
 refuse_add m w x e r s = coincide
 
-pub refuse_remove : (m : Block) (w : ℕ) (x : Worker) (a : ℕ) (f : Found) (r s : ℕ) → r ≡ first_of (remove_checks m w x a f) → s ≡ first_of (remove_checks m w x a f) → r ≡ s
+pub refuse_remove : (m : Block) (w : ℕ) (x : Worker) (a : ℕ) (f : Option ℕ) (r s : ℕ) → r ≡ first_of (remove_checks m w x a f) → s ≡ first_of (remove_checks m w x a f) → r ≡ s
 refuse_remove m w x a f r s = coincide
 
 pub refuse_submit : (m : Block) (w : ℕ) (x : Worker) (r s : ℕ) → r ≡ first_of (submit_checks m w x) → s ≡ first_of (submit_checks m w x) → r ≡ s
@@ -59,8 +58,8 @@ refuse_recover p r s = coincide
 pub add : (m : Block) (d : ℕ) (e : Entry) (x y : Block) → x ≡ added m d e → y ≡ added m d e → x ≡ y
 add m d e x y = coincide
 
-pub remove : (m : Block) (d : ℕ) (f : Found) (x y : Block) → x ≡ removed_at m d f → y ≡ removed_at m d f → x ≡ y
+pub remove : (m : Block) (d : ℕ) (f : Option ℕ) (x y : Block) → x ≡ removed_at m d f → y ≡ removed_at m d f → x ≡ y
 remove m d f x y = coincide
 
-pub open_found : (m : Block) (w : ℕ) (f : Found) (x y : Block) (r s : Answer) → left x r ≡ opened m w f → left y s ≡ opened m w f → (x ≡ y) × (r ≡ s)
+pub open_found : (m : Block) (w : ℕ) (f : Option ℕ) (x y : Block) (r s : Answer) → left x r ≡ opened m w f → left y s ≡ opened m w f → (x ≡ y) × (r ≡ s)
 open_found m w f x y r s = both

@@ -1,13 +1,11 @@
 -- The refusals 4 to 17: for each kind of event the ordered table of numbers and conditions of document 01, of which the first that holds is given.
-use Rattle.std.specs.Prelude.{Bool, true, false, cond, not, ◌||◌, List, [], ◌∷◌, ℕ, ◌^◌, eqb, leb}
+use Rattle.std.specs.Prelude.{Bool, true, false, cond, not, ◌||◌, List, [], ◌∷◌, ℕ, ◌^◌, eqb, leb, None, Option, Some}
 use Rattle.steps.specs.declared.Worker.{Worker}
 use Rattle.steps.specs.declared.Worker.TheVariants.{Idle, Building, Working, Reading, ReadClear}
 use Rattle.steps.specs.declared.Entry.{Entry}
 use Rattle.steps.specs.declared.RecoveryPlace.{RecoveryPlace}
 use Rattle.steps.specs.declared.RecoveryPlace.TheVariants.{Outside, At}
 use Rattle.memory.specs.declared.Copy.TheVariants.{Cached}
-use Rattle.memory.specs.declared.Found.{Found}
-use Rattle.memory.specs.declared.Found.TheVariants.{Here, Missing}
 use Rattle.memory.specs.Block.{Block}
 use Rattle.memory.specs.Content.{count_in, worker_in, recovery_in}
 use Rattle.memory.specs.Fresh.{sizes_in}
@@ -50,9 +48,9 @@ is_building (Working o e p) = false
 is_building (Reading a) = false
 is_building (ReadClear a v) = false
 
-abbrev pub is_missing : Found → Bool
-is_missing (Here i) = false
-is_missing Missing = true
+abbrev pub is_missing : Option ℕ → Bool
+is_missing (Some i) = false
+is_missing None = true
 
 -- each condition, by its number; x is the event's worker
 abbrev pub no_worker : Block → ℕ → Check
@@ -70,7 +68,7 @@ owns_something x = check 7 (not (is_idle x))
 abbrev pub not_building : Worker → Check
 not_building x = check 8 (not (is_building x))
 
-abbrev pub none_qualifies : Found → Check
+abbrev pub none_qualifies : Option ℕ → Check
 none_qualifies f = check 9 (is_missing f)
 
 abbrev pub no_address : Block → ℕ → Check
@@ -85,7 +83,7 @@ fifth_word m d = check 12 (leb 4 (count_in Cached m d))
 abbrev pub already_added : Block → ℕ → ℕ → Check
 already_added m d a = check 13 (not (is_missing (entry_for Cached m d a)))
 
-abbrev pub not_there : Found → Check
+abbrev pub not_there : Option ℕ → Check
 not_there f = check 14 (is_missing f)
 
 abbrev pub count_zero : Block → ℕ → Check
@@ -98,14 +96,14 @@ abbrev pub no_descriptor : Block → ℕ → Check
 no_descriptor m d = check 17 (not_below d (sizes_in m).k)
 
 -- for each kind, in the order 4, 5, 6, 7, 8, 16, 9, 10, 17, 11, 13, 12, 14, 15
-abbrev pub open_checks : Block → ℕ → Worker → Found → List Check
+abbrev pub open_checks : Block → ℕ → Worker → Option ℕ → List Check
 open_checks m w x f = no_worker m w ∷ in_recovery m ∷ owns_something x ∷ none_qualifies f ∷ []
 
 abbrev pub add_checks : Block → ℕ → Worker → Entry → List Check
 add_checks m w x e =
     no_worker m w ∷ in_recovery m ∷ not_building x ∷ no_address m e.address ∷ too_large e ∷ already_added m (build_of x) e.address ∷ fifth_word m (build_of x) ∷ []
 
-abbrev pub remove_checks : Block → ℕ → Worker → ℕ → Found → List Check
+abbrev pub remove_checks : Block → ℕ → Worker → ℕ → Option ℕ → List Check
 remove_checks m w x a f = no_worker m w ∷ in_recovery m ∷ not_building x ∷ no_address m a ∷ not_there f ∷ []
 
 abbrev pub submit_checks : Block → ℕ → Worker → List Check

@@ -12,7 +12,7 @@ pub use refuse::{
 use word::Outcome;
 
 // An event of a schedule: one for each kind of record, 01 to 0C. The first number of 01 to 07 is the worker.
-#[derive(Clone, Copy)]
+#[derive(Clone, Copy, PartialEq, Eq, Debug)]
 pub enum Event {
     Open(u64),
     // worker, address, expected, desired
@@ -30,7 +30,7 @@ pub enum Event {
 }
 
 // An answer: OK, D d, M, H e, W, S or F, V v, A, Z, R r.
-#[derive(Clone, Copy)]
+#[derive(Clone, Copy, PartialEq, Eq, Debug)]
 pub enum Answer {
     Ok,
     Opened(u64),

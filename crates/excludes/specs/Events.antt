@@ -1,6 +1,6 @@
 -- The crate `events`: what its promises rule out.
 use Rattle.std.specs.Prelude.{◌≡◌, refl, ◌≢◌, Bool, true, false, ◌&&◌, ◌||◌, List, [], ◌∷◌, ℕ, suc, ◌-◌, ◌^◌, ◌<◌, ◌≤◌, eqb, leb}
-use Rattle.std.proofs.Common.{sym, ap, ◌∙◌, subst, arith, le-leb, lt-ltb, ne_eqb}
+use Rattle.std.proofs.Common.{sym, ap, ◌∙◌, subst, arith, le-leb, lt-ltb, ne_eqb, None, Option, Some}
 use Rattle.std.proofs.lemmas.Bool.{lt-leb, eqb-false}
 use Rattle.steps.specs.declared.Entry.{Entry}
 use Rattle.steps.specs.declared.Own.{Own}
@@ -12,8 +12,6 @@ use Rattle.steps.specs.declared.RecoveryPlace.TheVariants.{Outside, At}
 use Rattle.steps.specs.Plan.{is_free}
 use Rattle.codes.specs.Row.{row_of}
 use Rattle.memory.specs.declared.Copy.TheVariants.{Cached, Persisted}
-use Rattle.memory.specs.declared.Found.{Found}
-use Rattle.memory.specs.declared.Found.TheVariants.{Here, Missing}
 use Rattle.memory.specs.Block.{Block, get}
 use Rattle.memory.specs.Block.Field.{body}
 use Rattle.memory.specs.Content.{status_in, count_in, put_count, entry_in, put_entry, clear_body, worker_in, put_worker, recovery_in}
@@ -44,40 +42,40 @@ pub owner_of_not_a_read : (a d : ℕ) → true ≢ owner_of (Read a) d
 owner_of_not_a_read a d e = clash (cc)
 
 -- "the lowest descriptor Free in both copies and owned by nobody"
-pub lowest_not_a_higher_one : (m : Block) (k i d : ℕ) → i < d → qualifies m i ≡ true → Here d ≢ lowest_below m k
+pub lowest_not_a_higher_one : (m : Block) (k i d : ℕ) → i < d → qualifies m i ≡ true → Some d ≢ lowest_below m k
 lowest_not_a_higher_one m k i d l h e =
-    let z : qualifies m i ≡ false = (subst (λ (f : Found). Says m k f) (sym e) (lowest_says m k)).first i l in
+    let z : qualifies m i ≡ false = (subst (λ (f : Option ℕ). Says m k f) (sym e) (lowest_says m k)).first i l in
     clash (cc)
 
-pub lowest_not_free_in_the_cached_copy_alone : (m : Block) (k d : ℕ) → is_free (status_in Persisted m d) ≡ false → Here d ≢ lowest_below m k
+pub lowest_not_free_in_the_cached_copy_alone : (m : Block) (k d : ℕ) → is_free (status_in Persisted m d) ≡ false → Some d ≢ lowest_below m k
 unfolding qualifies
 lowest_not_free_in_the_cached_copy_alone m k d h e =
-    let z : qualifies m d ≡ true = (subst (λ (f : Found). Says m k f) (sym e) (lowest_says m k)).does in
+    let z : qualifies m d ≡ true = (subst (λ (f : Option ℕ). Says m k f) (sym e) (lowest_says m k)).does in
     go (is_free (status_in Cached m d)) (rw h at z)
   where
     go : (t : Bool) → (t && false) ≡ true → ⊥
     go true q = clash (cc)
     go false q = clash (cc)
 
-pub lowest_not_missing_always : (m : Block) (k d : ℕ) → d < k → qualifies m d ≡ true → Missing ≢ lowest_below m k
+pub lowest_not_missing_always : (m : Block) (k d : ℕ) → d < k → qualifies m d ≡ true → None ≢ lowest_below m k
 lowest_not_missing_always m k d l h e =
-    let z : qualifies m d ≡ false = subst (λ (f : Found). Says m k f) (sym e) (lowest_says m k) d l in
+    let z : qualifies m d ≡ false = subst (λ (f : Option ℕ). Says m k f) (sym e) (lowest_says m k) d l in
     clash (cc)
 
 -- "its cached body becomes zeros"
 pub open_found_not_the_old_body : (m : Block) (w d j : ℕ) → Whole m → d < 16 → j < 13 → get m (body Cached d j) ≢ 0
-    → left (put_worker m w (Building d)) (Opened d) ≢ opened m w (Here d)
+    → left (put_worker m w (Building d)) (Opened d) ≢ opened m w (Some d)
 open_found_not_the_old_body m w d j h l k n =
     seen (λ (x : Left). get x.memory (body Cached d j))
     (row_other m w (row_of (Building d)) (body Cached d j) (λ i p e. clash (cc)))
     (row_other (clear_body m d) w (row_of (Building d)) (body Cached d j) (λ i p e. clash (cc)) ∙ cleared_zero m d 13 j h l (omega arith) k)
     n
 
-pub open_found_not_nothing : (m : Block) (w d : ℕ) (a : Answer) → Whole m → w < 8 → worker_in m w ≢ Building d → left m a ≢ opened m w (Here d)
+pub open_found_not_nothing : (m : Block) (w d : ℕ) (a : Answer) → Whole m → w < 8 → worker_in m w ≢ Building d → left m a ≢ opened m w (Some d)
 open_found_not_nothing m w d a h l n =
     seen (λ (x : Left). worker_in x.memory w) refl (worker_stored (clear_body m d) w (Building d) (cleared_whole m d 13 h) l) n
 
-pub open_found_not_refused_always : (m x : Block) (w d r : ℕ) → left x (Refused r) ≢ opened m w (Here d)
+pub open_found_not_refused_always : (m x : Block) (w d r : ℕ) → left x (Refused r) ≢ opened m w (Some d)
 open_found_not_refused_always m x w d r = by (λ (y : Left). y.answer) (λ e. clash (cc))
 
 -- the first entry is as it was, where the count alone changes or another entry is stored
@@ -106,7 +104,7 @@ add_not_at_the_end_always m d e h l k o =
     (ap (λ (x : Entry). x.address) (first_kept _ d 2 ∙ entry_stored _ d 0 e (entry_whole m d 1 _ h) l (omega arith)))
     (λ q. omega arith))
 
-pub remove_not_nothing : (m : Block) (d i : ℕ) → Whole m → d < 16 → i < count_in Cached m d → m ≢ removed_at m d (Here i)
+pub remove_not_nothing : (m : Block) (d i : ℕ) → Whole m → d < 16 → i < count_in Cached m d → m ≢ removed_at m d (Some i)
 unfolding removed_entry
 remove_not_nothing m d i h l k =
     let c = count_in Cached m d in
@@ -117,12 +115,12 @@ remove_not_nothing m d i h l k =
 
 -- "later entries move down, the place left over becomes zeros"
 pub remove_not_the_last_for_the_first : (m : Block) (d : ℕ) → Whole m → d < 16 → count_in Cached m d ≡ 2 → entry_in Cached m d 0 ≢ entry_in Cached m d 1
-    → put_count m d 1 ≢ removed_at m d (Here 0)
+    → put_count m d 1 ≢ removed_at m d (Some 0)
 unfolding removed_entry moved_down
 remove_not_the_last_for_the_first m d h l k n =
     rw k (seen (λ x. entry_in Cached x d 0) (first_kept m d 1) (first_kept _ d 1 ∙ beside _ d 0 no_entry ∙ entry_stored m d 0 _ h l (omega arith)) n)
 
-pub remove_not_the_count_alone : (m : Block) (d : ℕ) → Whole m → d < 16 → count_in Cached m d ≡ 1 → entry_in Cached m d 0 ≢ no_entry → put_count m d 0 ≢ removed_at m d (Here 0)
+pub remove_not_the_count_alone : (m : Block) (d : ℕ) → Whole m → d < 16 → count_in Cached m d ≡ 1 → entry_in Cached m d 0 ≢ no_entry → put_count m d 0 ≢ removed_at m d (Some 0)
 unfolding removed_entry moved_down
 remove_not_the_count_alone m d h l k n =
     rw k (seen (λ x. entry_in Cached x d 0) (first_kept m d 0) (first_kept _ d 0 ∙ entry_stored m d 0 no_entry h l (omega arith)) n)
@@ -138,11 +136,11 @@ module _ (c : Check) (cs : List Check) {r : ℕ} (e : eqb r c.number ≡ false) 
   up_to h = rw h (eqb-false r c.number e)
 
 -- where nothing is wrong no number is given, and 9 not before 7
-pub refuse_open_not_always : (m : Block) (w d r : ℕ) → w < (sizes_in m).w → recovery_in m ≡ Outside → r ≢ 0 → r ≢ first_of (open_checks m w Idle (Here d))
+pub refuse_open_not_always : (m : Block) (w d r : ℕ) → w < (sizes_in m).w → recovery_in m ≡ Outside → r ≢ 0 → r ≢ first_of (open_checks m w Idle (Some d))
 unfolding first_of
 refuse_open_not_always m w d r h l n = rw (lt-leb _ _ h, l) n
 
-pub refuse_open_not_9_before_7 : (m : Block) (w : ℕ) (x : Worker) (f : Found) → is_idle x ≡ false → 9 ≢ first_of (open_checks m w x f)
+pub refuse_open_not_9_before_7 : (m : Block) (w : ℕ) (x : Worker) (f : Option ℕ) → is_idle x ≡ false → 9 ≢ first_of (open_checks m w x f)
 refuse_open_not_9_before_7 m w x f h = past (no_worker m w) _ refl (past (in_recovery m) _ refl (up_to (owns_something x) _ refl (rw h)))
 
 leb_same : (n : ℕ) → leb n n ≡ true
@@ -160,7 +158,7 @@ refuse_add_not_the_desired_unseen m w x e h =
     (past (no_address m e.address) _ refl
     (up_to (too_large e) _ refl (rw (le-leb _ _ h) (or_true (leb (2 ^ 61) e.expected)))))))
 
-pub refuse_add_not_12_before_13 : (m : Block) (w i : ℕ) (x : Worker) (e : Entry) → entry_for Cached m (build_of x) e.address ≡ Here i → 12 ≢ first_of (add_checks m w x e)
+pub refuse_add_not_12_before_13 : (m : Block) (w i : ℕ) (x : Worker) (e : Entry) → entry_for Cached m (build_of x) e.address ≡ Some i → 12 ≢ first_of (add_checks m w x e)
 refuse_add_not_12_before_13 m w i x e h =
     past (no_worker m w) _ refl
     (past (in_recovery m) _ refl
@@ -170,18 +168,18 @@ refuse_add_not_12_before_13 m w i x e h =
     (up_to (already_added m (build_of x) e.address) _ refl (rw h))))))
 
 pub refuse_add_not_always : (m : Block) (w d r : ℕ) (e : Entry) → w < (sizes_in m).w → recovery_in m ≡ Outside → e.address < (sizes_in m).n → e.expected < 2 ^ 61 → e.desired < 2 ^ 61
-    → entry_for Cached m d e.address ≡ Missing → count_in Cached m d < 4 → r ≢ 0 → r ≢ first_of (add_checks m w (Building d) e)
+    → entry_for Cached m d e.address ≡ None → count_in Cached m d < 4 → r ≢ 0 → r ≢ first_of (add_checks m w (Building d) e)
 unfolding first_of
 refuse_add_not_always m w d r e h l a x y f c n = rw (lt-leb _ _ h, l, lt-leb _ _ a, lt-leb _ _ x, lt-leb _ _ y, f, lt-leb _ _ c) n
 
-pub refuse_remove_not_accepted_where_missing : (m : Block) (w a : ℕ) (x : Worker) → 0 ≢ first_of (remove_checks m w x a Missing)
+pub refuse_remove_not_accepted_where_missing : (m : Block) (w a : ℕ) (x : Worker) → 0 ≢ first_of (remove_checks m w x a None)
 refuse_remove_not_accepted_where_missing m w a x =
-    past (no_worker m w) _ refl (past (in_recovery m) _ refl (past (not_building x) _ refl (past (no_address m a) _ refl (up_to (not_there Missing) _ refl refl))))
+    past (no_worker m w) _ refl (past (in_recovery m) _ refl (past (not_building x) _ refl (past (no_address m a) _ refl (up_to (not_there None) _ refl refl))))
 
-pub refuse_remove_not_14_before_8 : (m : Block) (w a : ℕ) (f : Found) → 14 ≢ first_of (remove_checks m w Idle a f)
+pub refuse_remove_not_14_before_8 : (m : Block) (w a : ℕ) (f : Option ℕ) → 14 ≢ first_of (remove_checks m w Idle a f)
 refuse_remove_not_14_before_8 m w a f = past (no_worker m w) _ refl (past (in_recovery m) _ refl (up_to (not_building Idle) _ refl refl))
 
-pub refuse_remove_not_always : (m : Block) (w d a i r : ℕ) → w < (sizes_in m).w → recovery_in m ≡ Outside → a < (sizes_in m).n → r ≢ 0 → r ≢ first_of (remove_checks m w (Building d) a (Here i))
+pub refuse_remove_not_always : (m : Block) (w d a i r : ℕ) → w < (sizes_in m).w → recovery_in m ≡ Outside → a < (sizes_in m).n → r ≢ 0 → r ≢ first_of (remove_checks m w (Building d) a (Some i))
 unfolding first_of
 refuse_remove_not_always m w d a i r h l k n = rw (lt-leb _ _ h, l, lt-leb _ _ k) n
 

@@ -1,7 +1,7 @@
 -- The crate `machine`: what its promises rule out. The useless versions of document 01 that answer or change by steps are among them.
 use Rattle.std.specs.Prelude.{◌≡◌, ◌≢◌, false, ℕ, ◌+◌, ◌*◌, ◌/◌, ◌<◌, ◌≤◌}
 use Rattle.std.proofs.Math.Path.{refl}
-use Rattle.std.proofs.Common.{ap, ◌∙◌, sym, arith}
+use Rattle.std.proofs.Common.{ap, ◌∙◌, sym, arith, None, Option, Some}
 use Rattle.std.proofs.lemmas.Bool.{lt-leb}
 use Rattle.word.specs.declared.Outcome.{Outcome}
 use Rattle.word.specs.declared.Outcome.TheVariants.{Succeeded, Failed}
@@ -13,11 +13,8 @@ use Rattle.steps.specs.declared.Worker.{Worker}
 use Rattle.steps.specs.declared.Worker.TheVariants.{Working}
 use Rattle.steps.specs.declared.Next.{Next}
 use Rattle.steps.specs.declared.Next.TheVariants.{Go, Help, Over, Wait, Answer}
-use Rattle.steps.specs.declared.More.{More}
-use Rattle.steps.specs.declared.More.TheVariants.{Then, Done}
 use Rattle.steps.specs.declared.RecoveryPlace.{RecoveryPlace}
 use Rattle.steps.specs.declared.RecoveryPlace.TheVariants.{Outside, At}
-use Rattle.steps.specs.declared.RecoveryPlan.{RecoveryPlan}
 use Rattle.steps.specs.Plan.{is_free}
 use Rattle.steps.specs.Recovery.{recovery_step}
 use Rattle.memory.specs.declared.Copy.TheVariants.{Cached, Persisted}
@@ -43,6 +40,7 @@ use Rattle.machine.specs.Apply.{apply_of}
 use Rattle.machine.specs.Refused.{refused_unchanged}
 use Rattle.excludes.specs.Differ.{clash, by, seen}
 use Rattle.excludes.specs.Steps.{recovery_plan_not_done_early}
+use Rattle.steps.specs.declared.Plan.{Plan}
 
 -- the premises of the theorems on steps are met: by a fresh memory in which worker v runs an operation
 module _ (n k w v : ℕ) (o : Own) (e : ℕ) (p : Place) (inside : v < w) (row : v < 8) where
@@ -116,13 +114,13 @@ module _ (m x : Block) (d s : ℕ) (inside : recovery_in m ≡ At d s) (live : i
   unfolding apply_of refusal_of first_of
   a_step = rw inside (ap (λ (p : RecoveryPlace). recover_of m (sizes_in m).k p) inside)
 
-  not_done : (q : RecoveryPlan) → q ≡ recovery_plan_at m d s → Recovered ≢ recovery_answer (place_after (sizes_in m).k d q.next)
+  not_done : (q : Plan (Option ℕ)) → q ≡ recovery_plan_at m d s → Recovered ≢ recovery_answer (place_after (sizes_in m).k d q.next)
   unfolding recovery_plan_at seen_in
   not_done q e = go q.next refl
     where
-      go : (n : More) → q.next ≡ n → Recovered ≢ recovery_answer (place_after (sizes_in m).k d n)
-      go (Then t) f g = clash (cc)
-      go Done f g = recovery_plan_not_done_early d s (seen_in Persisted m d (s / 2)) q.effect live few early (ap (λ (n : More). recovery_step q.effect n) (sym f) ∙ e)
+      go : (n : Option ℕ) → q.next ≡ n → Recovered ≢ recovery_answer (place_after (sizes_in m).k d n)
+      go (Some t) f g = clash (cc)
+      go None f g = recovery_plan_not_done_early d s (seen_in Persisted m d (s / 2)) q.effect live few early (ap (λ (n : Option ℕ). recovery_step q.effect n) (sym f) ∙ e)
 
   pub apply_not_recovered_early : left x Recovered ≢ apply_of m Recover
   unfolding recovery_step_at

@@ -1,6 +1,6 @@
 -- The crate `memory`: what its promises rule out. The blocks are any that are whole; where a fault shows only in some, the premise says in which.
 use Rattle.std.specs.Prelude.{◌≡◌, refl, ◌≢◌, Bool, true, false, cond, ◌&&◌, ℕ, zero, suc, ◌+◌, ◌<◌, ◌≤◌, eqb, ltb}
-use Rattle.std.proofs.Common.{◌∙◌, arith, lt-ltb, le-ltb, eqb-true}
+use Rattle.std.proofs.Common.{◌∙◌, arith, lt-ltb, le-ltb, eqb-true, None, Option, Some}
 use Rattle.std.proofs.Math.Logic.{Ne-symm}
 use Rattle.std.proofs.lemmas.Bool.{lt-leb, eqb-false}
 use Rattle.word.specs.declared.Sort.{Sort}
@@ -21,8 +21,6 @@ use Rattle.codes.specs.Row.{worker_of, row_of}
 use Rattle.codes.specs.Round.{worker_round}
 use Rattle.memory.specs.declared.Copy.{Copy}
 use Rattle.memory.specs.declared.Copy.TheVariants.{Cached, Persisted}
-use Rattle.memory.specs.declared.Found.{Found}
-use Rattle.memory.specs.declared.Found.TheVariants.{Here, Missing}
 use Rattle.memory.specs.declared.Sizes.{Sizes}
 use Rattle.memory.specs.Block.{Block, Field, slot, get, put}
 use Rattle.memory.specs.Block.Field.{word, status, body, worker}
@@ -146,18 +144,18 @@ crash_copy_not_the_words_alone m d h l n =
     seen (λ x. get x (status Cached d)) (copied_other m 288 0 64 (slot (status Cached d)) (λ i k e. omega arith)) (crash_status m h d) n
 
 -- entries past the count are not looked at
-pub find_entry_not_past_the_count : (c : Copy) (m : Block) (d a i : ℕ) → count_in c m d ≤ i → Here i ≢ entry_for c m d a
+pub find_entry_not_past_the_count : (c : Copy) (m : Block) (d a i : ℕ) → count_in c m d ≤ i → Some i ≢ entry_for c m d a
 unfolding entry_for
 find_entry_not_past_the_count c m d a i h = one 0 _ (one 1 _ (one 2 _ (one 3 _ (λ e. clash (cc)))))
   where
-    one : (j : ℕ) (f : Found) → Here i ≢ f → Here i ≢ cond (has_at c m d a j) (Here j) f
+    one : (j : ℕ) (f : Option ℕ) → Some i ≢ f → Some i ≢ cond (has_at c m d a j) (Some j) f
     one j f n = go (eqb i j) refl
       where
-        go : (t : Bool) → eqb i j ≡ t → Here i ≢ cond (has_at c m d a j) (Here j) f
+        go : (t : Bool) → eqb i j ≡ t → Some i ≢ cond (has_at c m d a j) (Some j) f
         go true e = let z : i ≡ j = eqb-true i j e in rw (le-ltb j (count_in c m d) (rw z at h)) n
         go false e = picked (has_at c m d a j) (λ q. let z : i ≡ j = cc in eqb-false i j e z) n
 
-pub find_entry_not_the_first_three_alone : (c : Copy) (m : Block) (d a : ℕ) → has_at c m d a 3 ≡ true → Missing ≢ entry_for c m d a
+pub find_entry_not_the_first_three_alone : (c : Copy) (m : Block) (d a : ℕ) → has_at c m d a 3 ≡ true → None ≢ entry_for c m d a
 unfolding entry_for
 find_entry_not_the_first_three_alone c m d a h =
     picked (has_at c m d a 0) (λ e. clash (cc)) (picked (has_at c m d a 1) (λ e. clash (cc)) (picked (has_at c m d a 2) (λ e. clash (cc)) (rw h (λ e. clash (cc)))))
@@ -250,7 +248,7 @@ value_of_not_the_cached m a v dirty n =
     rw (same_value m (put_word m a (Plain v dirty)) (λ b. o _ (λ e. clash (cc))) (λ d. o _ (λ e. clash (cc))) (λ d j. o _ (λ e. clash (cc))) a) n
 
 -- a dirty Succeeded counts
-pub value_of_not_expected_where_succeeded : (m : Block) (a d i : ℕ) (x dirty : Bool) → word_in Persisted m a ≡ Pointer d x → entry_for Persisted m d a ≡ Here i
+pub value_of_not_expected_where_succeeded : (m : Block) (a d i : ℕ) (x dirty : Bool) → word_in Persisted m a ≡ Pointer d x → entry_for Persisted m d a ≡ Some i
     → status_in Persisted m d ≡ Decided Succeeded dirty → (entry_in Persisted m d i).expected ≢ (entry_in Persisted m d i).desired
     → (entry_in Persisted m d i).expected ≢ value_of m a
 unfolding value_of

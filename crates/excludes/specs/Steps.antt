@@ -1,6 +1,6 @@
 -- The crate `steps`: what its promises rule out. A plan is wrong by its effect or by what comes next; each is told for every other half.
 use Rattle.std.specs.Prelude.{◌≡◌, refl, ◌≢◌, Bool, true, false, cond, ℕ, suc, ◌+◌, ◌*◌, ◌<◌, ◌≤◌, eqb, ltb}
-use Rattle.std.proofs.Common.{ap, arith, lt-ltb, eq-eqb}
+use Rattle.std.proofs.Common.{ap, arith, lt-ltb, eq-eqb, None, Option, Some}
 use Rattle.word.specs.declared.Sort.{Sort}
 use Rattle.word.specs.declared.Sort.TheVariants.{Plain, Pointer, Neither}
 use Rattle.word.specs.declared.Outcome.{Outcome}
@@ -14,24 +14,20 @@ use Rattle.steps.specs.declared.Effect.{Effect}
 use Rattle.steps.specs.declared.Effect.TheVariants.{Nothing, StoreWord, StoreStatus, BackStatus}
 use Rattle.steps.specs.declared.Next.{Next}
 use Rattle.steps.specs.declared.Next.TheVariants.{Go, Wait}
-use Rattle.steps.specs.declared.More.{More}
-use Rattle.steps.specs.declared.More.TheVariants.{Then, Done}
 use Rattle.steps.specs.declared.Plan.{Plan}
 use Rattle.steps.specs.declared.ReadNext.{ReadNext}
 use Rattle.steps.specs.declared.ReadNext.TheVariants.{Value}
-use Rattle.steps.specs.declared.ReadPlan.{ReadPlan}
-use Rattle.steps.specs.declared.RecoveryPlan.{RecoveryPlan}
 use Rattle.steps.specs.Plan.{planned, points_to, is_dirty_pointer, is_dirty_plain, is_free, read_plan, read_clear_plan}
 use Rattle.steps.specs.Operation.{more_of, install_word, install_by, install, install_clear, persist_clear, decide, settle, settle_clear, swap, swapped, swap_clear, store_free}
 use Rattle.steps.specs.Recovery.{recovery_step, recovery_plan}
 use Rattle.image.specs.PlanLaws.{plan_cases}
 use Rattle.excludes.specs.Differ.{clash, by, picked}
 
-by_effect : {p q : Plan} → p.effect ≢ q.effect → p ≢ q
-by_effect = by (λ (p : Plan). p.effect)
+by_effect : {p q : Plan Next} → p.effect ≢ q.effect → p ≢ q
+by_effect = by (λ (p : Plan Next). p.effect)
 
-by_next : {p q : Plan} → p.next ≢ q.next → p ≢ q
-by_next = by (λ (p : Plan). p.next)
+by_next : {p q : Plan Next} → p.next ≢ q.next → p ≢ q
+by_next = by (λ (p : Plan Next). p.next)
 
 pub planned_not_without_its_effect : (e : Effect) (n : Next) → Nothing ≢ e → planned Nothing n ≢ planned e n
 planned_not_without_its_effect e n = by_effect
@@ -140,7 +136,7 @@ pub swap_clear_not_freed_by_a_helper : (i : ℕ) (s : Seen) (e : Effect) → pla
 unfolding swap_clear more_of
 swap_clear_not_freed_by_a_helper i s e = by_next (go (ltb (suc i) s.count))
   where
-    go : (t : Bool) → Go StoreFree ≢ swapped false (cond t (Then (suc i)) Done)
+    go : (t : Bool) → Go StoreFree ≢ swapped false (cond t (Some (suc i)) None)
     go true q = clash (cc)
     go false q = clash (cc)
 
@@ -150,8 +146,8 @@ store_free_not_while_another_is_on_it s t n = by_effect (λ e. clash (cc))
 pub store_free_not_failed_always : (dirty : Bool) (e : Effect) → planned e (Go (BackFree Failed)) ≢ store_free false (Decided Succeeded dirty)
 store_free_not_failed_always dirty e = by_next (λ q. clash (cc))
 
-read_next : {p q : ReadPlan} → p.next ≢ q.next → p ≢ q
-read_next = by (λ (p : ReadPlan). p.next)
+read_next : {p q : Plan ReadNext} → p.next ≢ q.next → p ≢ q
+read_next = by (λ (p : Plan ReadNext). p.next)
 
 -- a dirty word is not answered before it is written back, a pointer not at all
 pub read_plan_not_a_dirty_word_at_once : (a v x : ℕ) (e : Effect) → record { effect = e; next = Value x } ≢ read_plan a (Plain v true)
@@ -165,36 +161,36 @@ pub read_clear_plan_not_the_value_there_now : (a v x : ℕ) (dirty : Bool) (e : 
 read_clear_plan_not_the_value_there_now a v x dirty e n = read_next (λ q. let z : x ≡ v = cc in n z)
 
 pub read_clear_plan_not_a_changed_word : (a b v : ℕ) (s w : Sort) (n : ReadNext) → is_dirty_plain s v ≡ false → record { effect = StoreWord b w; next = n } ≢ read_clear_plan a v s
-read_clear_plan_not_a_changed_word a b v s w n h = rw h (by (λ (p : ReadPlan). p.effect) (λ e. clash (cc)))
+read_clear_plan_not_a_changed_word a b v s w n h = rw h (by (λ (p : Plan ReadNext). p.effect) (λ e. clash (cc)))
 
-recovery_effect : {p q : RecoveryPlan} → p.effect ≢ q.effect → p ≢ q
-recovery_effect = by (λ (p : RecoveryPlan). p.effect)
+recovery_effect : {p q : Plan (Option ℕ)} → p.effect ≢ q.effect → p ≢ q
+recovery_effect = by (λ (p : Plan (Option ℕ)). p.effect)
 
 -- 2c+2 steps for count c: not done before
 pub recovery_plan_not_done_early : (d done : ℕ) (s : Seen) (e : Effect) → is_free s.status ≡ false → s.count ≤ 4 → done < 2 * s.count + 1
-    → recovery_step e Done ≢ recovery_plan d done s
+    → recovery_step e None ≢ recovery_plan d done s
 recovery_plan_not_done_early d done s e h l m =
-    plan_cases d done s (λ p. recovery_step e Done ≢ p)
+    plan_cases d done s (λ p. recovery_step e None ≢ p)
     (λ z f q. clash (cc))
-    (λ a b c f q. clash (cc (ap (λ (p : RecoveryPlan). p.next) q)))
-    (λ a b c f q. clash (cc (ap (λ (p : RecoveryPlan). p.next) q)))
-    (λ a b c q. clash (cc (ap (λ (p : RecoveryPlan). p.next) q)))
-    (λ a b c q. clash (cc (ap (λ (p : RecoveryPlan). p.next) q)))
+    (λ a b c f q. clash (cc (ap (λ (p : Plan (Option ℕ)). p.next) q)))
+    (λ a b c f q. clash (cc (ap (λ (p : Plan (Option ℕ)). p.next) q)))
+    (λ a b c q. clash (cc (ap (λ (p : Plan (Option ℕ)). p.next) q)))
+    (λ a b c q. clash (cc (ap (λ (p : Plan (Option ℕ)). p.next) q)))
     (λ a b c q. b (omega arith) (omega arith))
 
 -- and done then
-pub recovery_plan_not_on_after_the_last : (d done n : ℕ) (s : Seen) (e : Effect) → s.count ≤ 4 → done ≡ 2 * s.count + 1 → recovery_step e (Then n) ≢ recovery_plan d done s
+pub recovery_plan_not_on_after_the_last : (d done n : ℕ) (s : Seen) (e : Effect) → s.count ≤ 4 → done ≡ 2 * s.count + 1 → recovery_step e (Some n) ≢ recovery_plan d done s
 recovery_plan_not_on_after_the_last d done n s e l m =
-    plan_cases d done s (λ p. recovery_step e (Then n) ≢ p)
+    plan_cases d done s (λ p. recovery_step e (Some n) ≢ p)
     (λ z f q. omega arith)
     (λ a b c f q. omega (arith, b.1))
     (λ a b c f q. omega (arith, b.1))
     (λ a b c q. omega (arith, b.1))
     (λ a b c q. omega arith)
-    (λ a b c q. clash (cc (ap (λ (p : RecoveryPlan). p.next) q)))
+    (λ a b c q. clash (cc (ap (λ (p : Plan (Option ℕ)). p.next) q)))
 
 -- nothing is freed while an entry is left, and no word is stored dirty
-pub recovery_plan_not_freed_first : (d done : ℕ) (s : Seen) (n : More) → done < 8 → done < 2 * s.count → recovery_step (StoreStatus Free) n ≢ recovery_plan d done s
+pub recovery_plan_not_freed_first : (d done : ℕ) (s : Seen) (n : Option ℕ) → done < 8 → done < 2 * s.count → recovery_step (StoreStatus Free) n ≢ recovery_plan d done s
 recovery_plan_not_freed_first d done s n h l =
     plan_cases d done s (λ p. recovery_step (StoreStatus Free) n ≢ p)
     (λ z f. recovery_effect (λ q. clash (cc)))
@@ -204,7 +200,7 @@ recovery_plan_not_freed_first d done s n h l =
     (λ a b c q. b h (omega arith))
     (λ a b c. recovery_effect (λ q. clash (cc)))
 
-pub recovery_plan_not_dirty : (d done a v : ℕ) (s : Seen) (n : More) → recovery_step (StoreWord a (Plain v true)) n ≢ recovery_plan d done s
+pub recovery_plan_not_dirty : (d done a v : ℕ) (s : Seen) (n : Option ℕ) → recovery_step (StoreWord a (Plain v true)) n ≢ recovery_plan d done s
 recovery_plan_not_dirty d done a v s n =
     plan_cases d done s (λ p. recovery_step (StoreWord a (Plain v true)) n ≢ p)
     (λ z f. recovery_effect (λ q. clash (cc)))
@@ -215,7 +211,7 @@ recovery_plan_not_dirty d done a v s n =
     (λ x b c. recovery_effect (λ q. clash (cc)))
 
 -- a dirty Succeeded counts here too: "recovery disregards the status's dirty bit"
-pub recovery_plan_not_expected_where_succeeded : (d done a : ℕ) (dirty : Bool) (s : Seen) (n : More) → s.status ≡ Decided Succeeded dirty → s.entry.expected ≢ s.entry.desired
+pub recovery_plan_not_expected_where_succeeded : (d done a : ℕ) (dirty : Bool) (s : Seen) (n : Option ℕ) → s.status ≡ Decided Succeeded dirty → s.entry.expected ≢ s.entry.desired
     → recovery_step (StoreWord a (Plain s.entry.expected false)) n ≢ recovery_plan d done s
 recovery_plan_not_expected_where_succeeded d done a dirty s n h l =
     plan_cases d done s (λ p. recovery_step (StoreWord a (Plain s.entry.expected false)) n ≢ p)

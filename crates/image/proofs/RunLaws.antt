@@ -1,4 +1,5 @@
 -- A run of recovery is its visits, one after the other: one law for each answer.
+use Rattle.std.specs.Prelude.{None, Option, Some, ℕ}
 use mathlib.Core.Path.{◌≡◌, refl, sym, ap, ◌∙◌}
 use mathlib.Core.Bool.{true, false, cond}
 use mathlib.Core.List.{List}
@@ -7,8 +8,6 @@ use native.Mathlib.Omega.{arith}
 use lib.Dec.{ltb}
 use lib.ListN.{length}
 use borrow.Author.Tests.{lt-ltb, le-ltb}
-use Rattle.steps.specs.declared.More.{More}
-use Rattle.steps.specs.declared.More.TheVariants.{Then, Done}
 use Rattle.steps.specs.declared.RecoveryPlace.{RecoveryPlace}
 use Rattle.steps.specs.declared.RecoveryPlace.TheVariants.{Outside, At}
 use Rattle.machine.specs.Recover.{place_after, visit_after}
@@ -40,10 +39,10 @@ unfolding visit_from
 visit_less zero n x d done = tt
 visit_less (suc a) n x d done = go (plan_in x n d done).next (λ s. visit_less a n (image_after n x d done) d s)
   where
-    go : (m : More) → ((s : ℕ) → Less a (visit_from a n (image_after n x d done) d s).result)
+    go : (m : Option ℕ) → ((s : ℕ) → Less a (visit_from a n (image_after n x d done) d s).result)
         → Less (suc a) (further m a (image_after n x d done) (λ s. visit_from a n (image_after n x d done) d s)).result
-    go (Then s) rest = less_more a (visit_from a n (image_after n x d done) d s).result (rest s)
-    go Done rest = omega arith
+    go (Some s) rest = less_more a (visit_from a n (image_after n x d done) d s).result (rest s)
+    go None rest = omega arith
 
 -- the rest of a run after a visit of d
 abbrev rest_after : ℕ → ℕ → ℕ → ℕ → List ℕ → Visit → Ran
@@ -62,17 +61,17 @@ unfolding run_from visit_from place_then
 run_visit zero n k x d done = refl
 run_visit (suc a) n k x d done = go (plan_in x n d done).next (λ s. run_visit a n k (image_after n x d done) d s)
   where
-    go : (m : More)
+    go : (m : Option ℕ)
         → ((s : ℕ) → run_from a n k (image_after n x d done) (At d s)
         ≡ rest_after n k d a (visit_from a n (image_after n x d done) d s).bytes (visit_from a n (image_after n x d done) d s).result)
         → one_more (run_from a n k (image_after n x d done) (place_after k d m))
         ≡ rest_after n k d (suc a) (further m a (image_after n x d done) (λ s. visit_from a n (image_after n x d done) d s)).bytes
         (further m a (image_after n x d done) (λ s. visit_from a n (image_after n x d done) d s)).result
-    go (Then s) rest =
+    go (Some s) rest =
         ap one_more (rest s)
         ∙ one_after n k d a (visit_from a n (image_after n x d done) d s).bytes (visit_from a n (image_after n x d done) d s).result
         (visit_less a n (image_after n x d done) d s)
-    go Done rest =
+    go None rest =
         let r = run_from a n k (image_after n x d done) (visit_after d k) in
         let z : suc a - a + r.steps ≡ suc r.steps = omega arith in
         rw z
@@ -84,11 +83,11 @@ visit_good zero n k x d done g r = g
 visit_good (suc a) n k x d done g r =
     go (plan_in x n d done).next (step_stands n k x d done g r) (λ s q. visit_good a n k (image_after n x d done) d s (step_good n k x d done g r) q)
   where
-    go : (m : More) → Stands n k (image_after n x d done) (place_after k d m)
+    go : (m : Option ℕ) → Stands n k (image_after n x d done) (place_after k d m)
         → ((s : ℕ) → Reached n k (image_after n x d done) d s → Good n k (visit_from a n (image_after n x d done) d s).bytes)
         → Good n k (further m a (image_after n x d done) (λ s. visit_from a n (image_after n x d done) d s)).bytes
-    go (Then s) q rest = rest s q
-    go Done q rest = step_good n k x d done g r
+    go (Some s) q rest = rest s q
+    go None q rest = step_good n k x d done g r
 
 -- where recovery of k descriptors stands before it visits d
 abbrev pub before : ℕ → ℕ → RecoveryPlace

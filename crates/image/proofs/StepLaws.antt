@@ -1,4 +1,5 @@
 -- The steps of a live descriptor, two at each entry and two at the end: what each does, and what a visit is then.
+use Rattle.std.specs.Prelude.{None, Option, Some, ℕ}
 use mathlib.Core.Path.{◌≡◌, refl, sym, ap, ◌∙◌}
 use mathlib.Core.Bool.{Bool, true, false, cond}
 use mathlib.Core.List.{List}
@@ -14,8 +15,6 @@ use Rattle.word.specs.Word.{word_number}
 use Rattle.word.specs.Status.{status_number}
 use Rattle.little.specs.Laws.{number_length, number-after, byte_after}
 use Rattle.steps.specs.declared.Effect.TheVariants.{BackWord, StoreStatus, BackStatus}
-use Rattle.steps.specs.declared.More.TheVariants.{Then, Done}
-use Rattle.steps.specs.declared.RecoveryPlan.{RecoveryPlan}
 use Rattle.steps.specs.Plan.{is_free, points_to, left_value, store_if}
 use Rattle.steps.specs.Recovery.{recovery_step, recovery_plan, live_step, entry_step, end_step}
 use Rattle.image.specs.declared.recover.Visit.TheVariants.{Over}
@@ -24,6 +23,7 @@ use Rattle.image.specs.LayoutLaws.{same_part, part_number}
 use Rattle.image.specs.Recover.{seen_in, performed_in, plan_in, image_after}
 use Rattle.image.specs.Visit.{visited, visit_from, replaced}
 use Rattle.image.proofs.ClaimLaws.{and_none}
+use Rattle.steps.specs.declared.Plan.{Plan}
 
 -- a store keeps the length, and a word's store the descriptors
 pub replaced_length : (x : List ℕ) (d a v : ℕ) → length (replaced x d a v) ≡ length x
@@ -52,16 +52,16 @@ freed_count x n d h =
     ∙ sym (part_number x (descriptor_place n d) 8 h (omega arith))
 
 -- a step after which others follow, and one that is the last
-pub next_step : (a n : ℕ) (x : List ℕ) (d done s : ℕ) → (plan_in x n d done).next ≡ Then s → visit_from (suc a) n x d done ≡ visit_from a n (image_after n x d done) d s
+pub next_step : (a n : ℕ) (x : List ℕ) (d done s : ℕ) → (plan_in x n d done).next ≡ Some s → visit_from (suc a) n x d done ≡ visit_from a n (image_after n x d done) d s
 unfolding visit_from
 next_step a n x d done s e = rw e
 
-pub last_step : (a n : ℕ) (x : List ℕ) (d done : ℕ) → (plan_in x n d done).next ≡ Done → visit_from (suc a) n x d done ≡ visited (image_after n x d done) (Over a)
+pub last_step : (a n : ℕ) (x : List ℕ) (d done : ℕ) → (plan_in x n d done).next ≡ None → visit_from (suc a) n x d done ≡ visited (image_after n x d done) (Over a)
 unfolding visit_from
 last_step a n x d done e = rw e
 
-pub next_of : (q r : RecoveryPlan) → q ≡ r → q.next ≡ r.next
-next_of q r e = ap (λ (p : RecoveryPlan). p.next) e
+pub next_of : (q r : Plan (Option ℕ)) → q ≡ r → q.next ≡ r.next
+next_of q r e = ap (λ (p : Plan (Option ℕ)). p.next) e
 
 -- the steps of a live descriptor
 module _ (n : ℕ) (x : List ℕ) (d : ℕ) (f : is_free (status_in (part_of x n d)) ≡ false) where
@@ -74,14 +74,14 @@ module _ (n : ℕ) (x : List ℕ) (d : ℕ) (f : is_free (status_in (part_of x n
         ≡ recovery_step
         (store_if (points_to (word_of x (entry_in (part_of x n d) i).address) d) (entry_in (part_of x n d) i).address
         (Plain (left_value (status_in (part_of x n d)) (entry_in (part_of x n d) i)) false))
-        (Then (suc (2 * i)))
+        (Some (suc (2 * i)))
     unfolding live_step entry_step seen_in
     even_plan =
         let z : 2 * i / 2 ≡ i = omega arith in
         let y : 2 * i % 2 ≡ 0 = omega arith in
         live_plan (2 * i) ∙ rw (z, lt-ltb (2 * i) 8 (omega arith), lt-ltb i (count_in (part_of x n d)) l, y)
 
-    odd_plan : plan_in x n d (suc (2 * i)) ≡ recovery_step (BackWord (entry_in (part_of x n d) i).address) (Then (suc (suc (2 * i))))
+    odd_plan : plan_in x n d (suc (2 * i)) ≡ recovery_step (BackWord (entry_in (part_of x n d) i).address) (Some (suc (suc (2 * i))))
     unfolding live_step entry_step seen_in
     odd_plan =
         let z : suc (2 * i) / 2 ≡ i = omega arith in
@@ -103,7 +103,7 @@ module _ (n : ℕ) (x : List ℕ) (d : ℕ) (f : is_free (status_in (part_of x n
     unfolding image_after
     odd_image = rw odd_plan
 
-  pub end_plan : plan_in x n d (2 * count_in (part_of x n d)) ≡ recovery_step (StoreStatus Free) (Then (suc (2 * count_in (part_of x n d))))
+  pub end_plan : plan_in x n d (2 * count_in (part_of x n d)) ≡ recovery_step (StoreStatus Free) (Some (suc (2 * count_in (part_of x n d))))
   unfolding live_step end_step seen_in
   end_plan =
       let c = count_in (part_of x n d) in
@@ -117,7 +117,7 @@ module _ (n : ℕ) (x : List ℕ) (d : ℕ) (f : is_free (status_in (part_of x n
 
 -- its last step, after Free is stored
 module _ (n : ℕ) (x : List ℕ) (d c : ℕ) (e : count_in (part_of x n d) ≡ c) where
-  pub last_plan : plan_in x n d (suc (2 * c)) ≡ recovery_step BackStatus Done
+  pub last_plan : plan_in x n d (suc (2 * c)) ≡ recovery_step BackStatus None
   unfolding plan_in recovery_plan live_step end_step seen_in
   last_plan =
       let z : suc (2 * c) / 2 ≡ c = omega arith in

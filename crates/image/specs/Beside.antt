@@ -1,6 +1,6 @@
 -- A memory in recovery beside the image of its cached copy: the machine plans the same step, and its effect is the same.
 use Rattle.std.proofs.Math.Path.{◌≡◌, refl, sym, ap}
-use Rattle.std.proofs.Common.{◌∙◌, arith, eqb-true, ltb-true}
+use Rattle.std.proofs.Common.{◌∙◌, arith, eqb-true, ltb-true, None, Option}
 use Rattle.std.specs.Prelude.{Bool, cond, ◌&&◌, ℕ, suc, ◌+◌, ◌*◌, ◌/◌, ◌<◌, ◌^◌, eqb, ltb}
 use Rattle.std.proofs.Math.Bool.{true, false}
 use mathlib.Core.List.{List}
@@ -11,8 +11,6 @@ use Rattle.word.specs.Word.{word_number}
 use Rattle.word.specs.Status.{status_of}
 use Rattle.steps.specs.declared.Seen.{Seen}
 use Rattle.steps.specs.declared.Effect.TheVariants.{Nothing}
-use Rattle.steps.specs.declared.More.TheVariants.{Done}
-use Rattle.steps.specs.declared.RecoveryPlan.{RecoveryPlan}
 use Rattle.steps.specs.declared.RecoveryPlace.{RecoveryPlace}
 use Rattle.steps.specs.declared.RecoveryPlace.TheVariants.{Outside, At}
 use Rattle.steps.specs.Plan.{is_free, left_value}
@@ -32,6 +30,7 @@ use Rattle.image.specs.Stays.{Reached, live, entry_at}
 use Rattle.image.specs.PlanLaws.{Before, plan_cases}
 use Rattle.image.specs.OfMemory.{image_of, Fits, word_read, status_read, count_read, entry_read, same_image, field_is, word_store, status_store}
 use Rattle.image.specs.Recover.{seen_in, performed_in, plan_in}
+use Rattle.steps.specs.declared.Plan.{Plan}
 
 -- a plan depends on the count; on the status before the first step; on all that is seen at an entry
 pub same_plan : (d done : ℕ) (s t : Seen) → s.count ≡ t.count → (done ≡ 0 → is_free s.status ≡ is_free t.status)
@@ -49,7 +48,7 @@ same_plan d done s t c f h = go (eqb done 0) (is_free t.status) refl refl f
     rest l = rw c (entries l (ltb done 8) (ltb (done / 2) t.count) refl refl)
 
     go : (a b : Bool) → eqb done 0 ≡ a → is_free t.status ≡ b → (done ≡ 0 → is_free s.status ≡ b)
-        → cond (a && is_free s.status) (recovery_step Nothing Done) (live_step d done s) ≡ cond (a && b) (recovery_step Nothing Done) (live_step d done t)
+        → cond (a && is_free s.status) (recovery_step Nothing None) (live_step d done s) ≡ cond (a && b) (recovery_step Nothing None) (live_step d done t)
     go true true e g k = let q = k (eqb-true _ _ e) in rw q
     go true false e g k = let q = k (eqb-true _ _ e) in rw q (rest (λ r. let z : ◌≡◌ {A = ℕ} 0 1 = cc in absurd (omega arith)))
     go false b e g k = rest (λ r. let o : done ≡ 0 → ⊥ = eqb-false done 0 e in omega arith)
@@ -185,12 +184,12 @@ ahead_alike m z (At d done) a h =
     }
 
 -- what a step's effect leaves, beside the image after it
-abbrev Both : ℕ → ℕ → Block → List ℕ → ℕ → RecoveryPlan → Type 0
+abbrev Both : ℕ → ℕ → Block → List ℕ → ℕ → Plan (Option ℕ) → Type 0
 Both n k m x d q = Beside n k (S.performed m d q.effect) (performed_in x n d q.effect) × AheadAt (S.performed m d q.effect) (place_after k d q.next)
 
 module _ (n k : ℕ) (m : Block) (x : List ℕ) (d done : ℕ) (b : Beside n k m x) (a : Ahead m d done) (g : Good n k x) (r : Reached n k x d done) where
   -- the next descriptor's status is the same in both copies
-  visited : (z : Block) → ((e : ℕ) → d < e → get z (status Persisted e) ≡ get z (status Cached e)) → AheadAt z (place_after k d Done)
+  visited : (z : Block) → ((e : ℕ) → d < e → get z (status Persisted e) ≡ get z (status Cached e)) → AheadAt z (place_after k d None)
   unfolding visit_after
   visited z h = go (ltb (suc d) k)
     where

@@ -1,13 +1,11 @@
 -- How many steps recovery takes: "Free: one step", else "2c+2 steps for count c"; complete exactly when the allowance covers their sum.
 use Rattle.std.specs.Prelude.{◌≡◌, Bool, false, cond, List, ℕ, zero, suc, ◌+◌, ◌-◌, ◌*◌, ◌/◌, ◌%◌, ◌<◌, ◌≤◌, leb, ltb}
 use Rattle.std.proofs.Math.Path.{refl}
-use Rattle.std.proofs.Common.{sym, ap, ◌∙◌, arith, le-leb, leb-true, leb-false, ltb-true, ltb-false}
+use Rattle.std.proofs.Common.{sym, ap, ◌∙◌, arith, le-leb, leb-true, leb-false, ltb-true, ltb-false, None, Option}
 use Rattle.std.proofs.Math.Bool.{true}
 use Rattle.std.proofs.lemmas.Bool.{lt-leb}
 use Rattle.word.specs.declared.Sort.TheVariants.{Plain}
 use Rattle.word.specs.declared.Status.TheVariants.{Free}
-use Rattle.steps.specs.declared.More.TheVariants.{Done}
-use Rattle.steps.specs.declared.RecoveryPlan.{RecoveryPlan}
 use Rattle.steps.specs.declared.RecoveryPlace.{RecoveryPlace}
 use Rattle.steps.specs.declared.RecoveryPlace.TheVariants.{Outside, At}
 use Rattle.steps.specs.Plan.{is_free, left_value}
@@ -21,6 +19,7 @@ use Rattle.image.specs.Recover.{seen_in, performed_in, plan_in, image_after, pla
 use Rattle.image.specs.Good.{Good, good, live_count}
 use Rattle.image.specs.StepCount.{Held, steps_for, steps_from, steps_left, first_left, here_is, free_here, goes_left, over_left, at_most, from_most}
 use Rattle.image.specs.Stays.{Reached, Stands, begins, entry_at, step_good, step_stands}
+use Rattle.steps.specs.declared.Plan.{Plan}
 
 -- what an image holds of its descriptors; the steps of the whole image
 abbrev pub held_in : ℕ → List ℕ → Held
@@ -33,7 +32,7 @@ abbrev left_in : ℕ → ℕ → List ℕ → RecoveryPlace → ℕ
 left_in n k x p = steps_left k (held_in n x) p
 
 -- a step is one of them
-abbrev OneLess : ℕ → ℕ → List ℕ → ℕ → ℕ → RecoveryPlan → Type 0
+abbrev OneLess : ℕ → ℕ → List ℕ → ℕ → ℕ → Plan (Option ℕ) → Type 0
 OneLess n k x d done q = left_in n k x (At d done) ≡ suc (left_in n k (performed_in x n d q.effect) (place_after k d q.next))
 
 module _ (n k : ℕ) (x : List ℕ) (g : Good n k x) (d done : ℕ) (r : Reached n k x d done) where
@@ -78,7 +77,7 @@ module _ (n k : ℕ) (x : List ℕ) (g : Good n k x) (d done : ℕ) (r : Reached
       one : done ≡ 2 * count_in (part_of x n d) + 1 → 2 * count_in (part_of x n d) + 2 - done ≡ 1
       one e = omega arith
 
-      first : done ≡ 0 → is_free (status_in (part_of x n d)) ≡ true → left_in n k x (At d done) ≡ suc (left_in n k x (place_after k d Done))
+      first : done ≡ 0 → is_free (status_in (part_of x n d)) ≡ true → left_in n k x (At d done) ≡ suc (left_in n k x (place_after k d None))
       first e f = over_left k (held_in n x) (held_in n x) d done (free_here done (held_in n x) d e f) (λ i p q. refl)
 
 pub step_counted : (n k : ℕ) (x : List ℕ) (d done : ℕ) → Good n k x → Reached n k x d done

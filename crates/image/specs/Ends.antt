@@ -1,13 +1,11 @@
 -- A complete recovery leaves every status Free and every word plain; a word that was plain, dirty or not, is as it was after any number of steps.
 use Rattle.std.specs.Prelude.{◌≡◌, refl, Bool, true, false, not, cond, ◌||◌, List, ℕ, zero, suc, ◌/◌, ◌%◌, ◌<◌, eqb, leb, ltb}
-use Rattle.std.proofs.Common.{ap, ◌∙◌, arith, eqb-true, leb-false, ltb-false}
+use Rattle.std.proofs.Common.{ap, ◌∙◌, arith, eqb-true, leb-false, ltb-false, None, Option}
 use Rattle.std.proofs.lemmas.Bool.{eqb-false}
 use Rattle.word.specs.declared.Sort.{Sort}
 use Rattle.word.specs.declared.Sort.TheVariants.{Plain, Pointer, Neither}
 use Rattle.word.specs.declared.Status.{Status}
 use Rattle.word.specs.declared.Status.TheVariants.{Free, Undecided, Decided, Bad}
-use Rattle.steps.specs.declared.More.TheVariants.{Done}
-use Rattle.steps.specs.declared.RecoveryPlan.{RecoveryPlan}
 use Rattle.steps.specs.declared.RecoveryPlace.{RecoveryPlace}
 use Rattle.steps.specs.declared.RecoveryPlace.TheVariants.{Outside, At}
 use Rattle.steps.specs.Plan.{is_free, points_to, left_value}
@@ -21,6 +19,7 @@ use Rattle.image.specs.Recover.{seen_in, performed_in, plan_in, image_after, pla
 use Rattle.image.specs.Good.{Good, good}
 use Rattle.image.specs.Stays.{Reached, Stands, begins, entry_at, step_good, step_stands, stays_accepted}
 use Rattle.image.specs.Values.{step_word}
+use Rattle.steps.specs.declared.Plan.{Plan}
 
 abbrev pub is_plain : Sort → Bool
 is_plain (Plain v dirty) = true
@@ -48,7 +47,7 @@ one-more n x d f h e l = go (eqb e d) refl
     go true q = rw (eqb-true e d q) h
     go false q = let o : e ≡ d → ⊥ = eqb-false e d q in f e (omega arith)
 
-visited : (n k : ℕ) (x : List ℕ) (d : ℕ) → FreeBelow n x (suc d) → Behind n k x (place_after k d Done)
+visited : (n k : ℕ) (x : List ℕ) (d : ℕ) → FreeBelow n x (suc d) → Behind n k x (place_after k d None)
 unfolding visit_after
 visited n k x d f = go (ltb (suc d) k) refl
   where
@@ -57,7 +56,7 @@ visited n k x d f = go (ltb (suc d) k) refl
     go false e = λ i l. let m = ltb-false (suc d) k e in f i (omega arith)
 
 -- one step
-abbrev BehindAfter : ℕ → ℕ → List ℕ → ℕ → RecoveryPlan → Type 0
+abbrev BehindAfter : ℕ → ℕ → List ℕ → ℕ → Plan (Option ℕ) → Type 0
 BehindAfter n k x d q = Behind n k (performed_in x n d q.effect) (place_after k d q.next)
 
 module _ (n k : ℕ) (x : List ℕ) (g : Good n k x) (d done : ℕ) (r : Reached n k x d done) (b : Behind n k x (At d done)) where

@@ -1,11 +1,10 @@
 -- Recovery of an image, in place, from descriptor 0: the machine's own plan of a recovery step (`recovery_plan`), performed on the image's bytes. "It performs at
 -- most that many recovery steps ... and answers complete or not, with the steps taken; a write-back step alters no byte and counts."
-use Rattle.std.specs.Prelude.{ℕ, zero, suc, ◌/◌, Bool, true, false, List}
+use Rattle.std.specs.Prelude.{ℕ, zero, suc, ◌/◌, Bool, true, false, List, Option}
 use Rattle.steps.specs.declared.Seen.{Seen}
 use Rattle.steps.specs.declared.Effect as E
 use Rattle.steps.specs.declared.Effect.{Effect}
 use Rattle.steps.specs.declared.Effect.TheVariants.{Nothing, StoreWord, BackWord, StoreStatus, BackStatus}
-use Rattle.steps.specs.declared.RecoveryPlan.{RecoveryPlan}
 use Rattle.steps.specs.declared.RecoveryPlace.{RecoveryPlace}
 use Rattle.steps.specs.declared.RecoveryPlace.TheVariants.{Outside, At}
 use Rattle.steps.specs.Recovery.{recovery_plan}
@@ -13,6 +12,7 @@ use Rattle.machine.specs.Recover.{place_after}
 use Rattle.image.specs.declared.Recovery.{Recovery}
 use Rattle.image.specs.Layout.{word_of, with_word, part_of, status_in, count_in, entry_in, with_status}
 use Rattle.image.specs.Check.{image_refusal}
+use Rattle.steps.specs.declared.Plan.{Plan}
 
 -- what a step at entry i of d looks at
 unfoldable pub seen_in : List ℕ → ℕ → ℕ → ℕ → Seen
@@ -33,7 +33,7 @@ performed_in x n d (StoreStatus s) = with_status x n d s
 performed_in x n d BackStatus = x
 performed_in x n d E.TheVariants.BackBody = x
 
-unfoldable pub plan_in : List ℕ → ℕ → ℕ → ℕ → RecoveryPlan
+unfoldable pub plan_in : List ℕ → ℕ → ℕ → ℕ → Plan (Option ℕ)
 plan_in x n d done = recovery_plan d done (seen_in x n d (done / 2))
 
 -- one step at d: the image then, and where recovery stands then

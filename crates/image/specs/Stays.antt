@@ -1,14 +1,12 @@
 -- An accepted image stays accepted after any number of recovery steps.
 use Rattle.std.specs.Prelude.{◌≡◌, Bool, cond, ◌||◌, List, ℕ, zero, suc, ◌+◌, ◌*◌, ◌/◌, ◌%◌, ◌<◌, ◌≤◌, ◌^◌, leb, ltb}
 use Rattle.std.proofs.Math.Path.{refl, sym}
-use Rattle.std.proofs.Common.{ap, ◌∙◌, arith}
+use Rattle.std.proofs.Common.{ap, ◌∙◌, arith, None, Option}
 use Rattle.std.proofs.Math.Bool.{true, false, not}
 use Rattle.std.proofs.Math.Dec.{eqb}
 use borrow.Author.Tests.{eqb-true, ltb-true, ltb-false, not-false}
 use Rattle.word.specs.declared.Sort.TheVariants.{Plain}
 use Rattle.word.specs.declared.Status.TheVariants.{Free}
-use Rattle.steps.specs.declared.More.TheVariants.{Done}
-use Rattle.steps.specs.declared.RecoveryPlan.{RecoveryPlan}
 use Rattle.steps.specs.declared.RecoveryPlace.{RecoveryPlace}
 use Rattle.steps.specs.declared.RecoveryPlace.TheVariants.{Outside, At}
 use Rattle.steps.specs.Plan.{is_free, points_to, outcome_of, left_value}
@@ -20,6 +18,7 @@ use Rattle.image.specs.LayoutLaws.{part_word, status_freed, count_kept}
 use Rattle.image.specs.PlanLaws.{Before, Past, plan_cases}
 use Rattle.image.specs.Recover.{seen_in, performed_in, plan_in, image_after, place_then, run_from}
 use Rattle.image.specs.Good.{Good, good, good_back, points_target, word_is, good_word, good_free, live_count, entry_good, entry_small, chosen_small}
+use Rattle.steps.specs.declared.Plan.{Plan}
 
 -- where recovery can stand in such an image: the entries passed are cleared; a descriptor is Free before its first step, or its entries are over
 pub record Reached (n k : ℕ) (x : List ℕ) (d done : ℕ) : Type 0 where
@@ -35,7 +34,7 @@ Stands n k x (At d done) = Reached n k x d done
 pub begins : (n k : ℕ) (x : List ℕ) (d : ℕ) → d < k → Reached n k x d 0
 begins n k x d h = record { here = h; cleared = λ f i l m. absurd (omega arith); freed = λ f l. absurd (omega arith); most = λ l. absurd (omega arith) }
 
-visits : (n k : ℕ) (x : List ℕ) (d : ℕ) → Stands n k x (place_after k d Done)
+visits : (n k : ℕ) (x : List ℕ) (d : ℕ) → Stands n k x (place_after k d None)
 unfolding visit_after
 visits n k x d = go (ltb (suc d) k) refl
   where
@@ -82,7 +81,7 @@ module _ (n k : ℕ) (x : List ℕ) (g : Good n k x) (d done : ℕ) (r : Reached
           rw w at (r.cleared f i.number m (past_after done (count_in (part_of x n d)) i.number past m c.1))
 
 -- one step
-abbrev After : ℕ → ℕ → List ℕ → ℕ → RecoveryPlan → Type 0
+abbrev After : ℕ → ℕ → List ℕ → ℕ → Plan (Option ℕ) → Type 0
 After n k x d q = Good n k (performed_in x n d q.effect) × Stands n k (performed_in x n d q.effect) (place_after k d q.next)
 
 module _ (n k : ℕ) (x : List ℕ) (g : Good n k x) (d done : ℕ) (r : Reached n k x d done) where

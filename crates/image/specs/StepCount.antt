@@ -1,8 +1,7 @@
 -- How many steps recovery takes, by the statuses and counts of the descriptors, wherever these are held: in the bytes of an image, in a block, in cells.
 use Rattle.std.specs.Prelude.{◌≡◌, refl, Bool, true, false, cond, ℕ, zero, suc, ◌+◌, ◌-◌, ◌*◌, ◌<◌, ◌≤◌, ltb}
-use Rattle.std.proofs.Common.{ap, arith, ltb-true, ltb-false}
+use Rattle.std.proofs.Common.{ap, arith, ltb-true, ltb-false, None}
 use Rattle.word.specs.declared.Status.{Status}
-use Rattle.steps.specs.declared.More.TheVariants.{Done}
 use Rattle.steps.specs.declared.RecoveryPlace.{RecoveryPlace}
 use Rattle.steps.specs.declared.RecoveryPlace.TheVariants.{Outside, At}
 use Rattle.steps.specs.Plan.{is_free}
@@ -83,7 +82,7 @@ unfolding steps_left
 goes_left k h g d t l m c s = rw (here_is t h d l, c, after_same k h g d s) (omega arith)
 
 -- after the last step at d
-visit_left : (k : ℕ) (h : Held) (d : ℕ) → steps_left k h (place_after k d Done) ≡ steps_from (k - suc d) h (suc d)
+visit_left : (k : ℕ) (h : Held) (d : ℕ) → steps_left k h (place_after k d None) ≡ steps_from (k - suc d) h (suc d)
 unfolding visit_after steps_from steps_left
 visit_left k h d = go (ltb (suc d) k) refl
   where
@@ -92,7 +91,7 @@ visit_left k h d = go (ltb (suc d) k) refl
     go false e = let l = ltb-false (suc d) k e in let z : k - suc d ≡ 0 = omega arith in rw z
 
 pub over_left : (k : ℕ) (h g : Held) (d t : ℕ) → steps_here t h d ≡ 1 → ((e : ℕ) → d < e → e < k → steps_at g e ≡ steps_at h e)
-    → steps_left k h (At d t) ≡ suc (steps_left k g (place_after k d Done))
+    → steps_left k h (At d t) ≡ suc (steps_left k g (place_after k d None))
 unfolding steps_left
 over_left k h g d t o s = rw (visit_left k g d, o, after_same k h g d s) (omega arith)
 

@@ -1,12 +1,10 @@
 -- A visit of one descriptor: the machine's recovery steps there, from `done` of them on, until they are over or the allowance is used up.
-use Rattle.std.specs.Prelude.{ℕ, zero, suc, false, cond, List}
+use Rattle.std.specs.Prelude.{ℕ, zero, suc, false, cond, List, None, Option, Some}
 use Rattle.word.specs.declared.Sort.TheVariants.{Plain}
 use Rattle.word.specs.declared.Outcome.{Outcome}
 use Rattle.word.specs.declared.Outcome.TheVariants.{Succeeded, Failed}
 use Rattle.word.specs.declared.Status.{Status}
 use Rattle.word.specs.declared.Status.TheVariants.{Free}
-use Rattle.steps.specs.declared.More.{More}
-use Rattle.steps.specs.declared.More.TheVariants.{Then, Done}
 use Rattle.steps.specs.Plan.{points_to, outcome_of}
 use Rattle.image.specs.declared.recover.Visit.{Visit}
 use Rattle.image.specs.declared.recover.Visit.TheVariants.{Over, Stopped}
@@ -22,9 +20,9 @@ abbrev pub visited : List ℕ → Visit → Visited
 visited x v = record { bytes = x; result = v }
 
 -- after a step: the next ones, or none with so much of the allowance left
-abbrev pub further : More → ℕ → List ℕ → (ℕ → Visited) → Visited
-further (Then s) a x rest = rest s
-further Done a x rest = visited x (Over a)
+abbrev pub further : Option ℕ → ℕ → List ℕ → (ℕ → Visited) → Visited
+further (Some s) a x rest = rest s
+further None a x rest = visited x (Over a)
 
 unfoldable pub visit_from : ℕ → ℕ → List ℕ → ℕ → ℕ → Visited
 visit_from zero n x d done = visited x Stopped

@@ -13,7 +13,6 @@ use Rattle.steps.specs.declared.Effect as F
 use Rattle.steps.specs.declared.Effect.{Effect}
 use Rattle.steps.specs.declared.Seen.{Seen}
 use Rattle.steps.specs.declared.Plan.{Plan}
-use Rattle.steps.specs.declared.ReadPlan.{ReadPlan}
 use Rattle.codes.specs.Place.{place_entry}
 use Rattle.memory.specs.declared.Copy.TheVariants.{Cached, Persisted}
 use Rattle.memory.specs.Block.{Block}
@@ -36,6 +35,8 @@ use Rattle.ledger.specs.Seen.{Sees, block_sees}
 use Rattle.ledger.specs.Fits.{CellFits, CellsFit, EffectFits, view_performed}
 use Rattle.ledger.proofs.PlanFits.{Placed, plan_fits, read_fits, read_clear_fits, recovery_fits}
 use Rattle.ledger.proofs.Machine.{Turn, Acts, Alone, refused, works, reads, clears, backs_word, backs_status, backs_body, crashes, recovers}
+use Rattle.steps.specs.declared.Next.{Next}
+use Rattle.steps.specs.declared.ReadNext.{ReadNext}
 
 -- what an event leaves is a turn
 abbrev pub Follows : ℕ → ℕ → Block → Event → Left → Type 0
@@ -91,7 +92,7 @@ module _ (n k : ℕ) (nn : n ≤ 64) (kk : k ≤ 16) (m : Block) (h : Whole m) (
         sees : Sees (cells_of m) Cached d (place_entry p) x
         sees = block_sees Cached m d (place_entry p)
 
-        q : Plan
+        q : Plan Next
         q = plan_of p d x (busy_at m w d p) (owner_of o d)
 
         alone : Alone (view m) w d p (busy_at m w d p)
@@ -111,7 +112,7 @@ module _ (n k : ℕ) (nn : n ≤ 64) (kk : k ≤ 16) (m : Block) (h : Whole m) (
           (sym (acted_view 0 q.effect w (read_after a q.next) kp (read_fits n k a an (word_in Cached m a) word_fits).0 wl))
           (reads w a (word_in Cached m a) (acts (Reading a) e) refl)
         where
-          q : ReadPlan
+          q : Plan ReadNext
           q = read_plan a (word_in Cached m a)
 
       clear_follows : (v : ℕ) → worker_in m w ≡ ReadClear a v → Follows n k m (Step w) (read_clear_step m w a v)
@@ -120,7 +121,7 @@ module _ (n k : ℕ) (nn : n ≤ 64) (kk : k ≤ 16) (m : Block) (h : Whole m) (
           (sym (acted_view 0 q.effect w (read_after a q.next) kp (read_clear_fits n k a an v (word_in Cached m a) word_fits).0 wl))
           (clears w a v (word_in Cached m a) (acts (ReadClear a v) e) refl)
         where
-          q : ReadPlan
+          q : Plan ReadNext
           q = read_clear_plan a v (word_in Cached m a)
 
     -- record 07

@@ -1,7 +1,7 @@
 -- Every event of the block, refused or not, is a turn of the machine on cells, with the same answer.
 use Rattle.std.specs.Prelude.{◌≡◌, Bool, false, cond, ◌&&◌, ltb, leb}
 use Rattle.std.proofs.Math.Path.{refl, ap, subst}
-use Rattle.std.proofs.Common.{sym, ◌∙◌, arith, leb-false, ltb-true}
+use Rattle.std.proofs.Common.{sym, ◌∙◌, arith, leb-false, ltb-true, None, Option, Some, ℕ}
 use Rattle.std.proofs.Math.Bool.{true, not}
 use Prim.Native.Nat.{ℕ, zero, suc, ◌<◌, ◌≤◌, ◌^◌}
 use Rattle.std.proofs.Math.Decide.{ℕ_discrete, dec_lt}
@@ -13,8 +13,6 @@ use Rattle.steps.specs.declared.RecoveryPlace.{RecoveryPlace}
 use Rattle.steps.specs.declared.RecoveryPlace.TheVariants.{Outside, At}
 use Rattle.steps.specs.Plan.{is_free}
 use Rattle.memory.specs.declared.Copy.TheVariants.{Cached, Persisted}
-use Rattle.memory.specs.declared.Found.{Found}
-use Rattle.memory.specs.declared.Found.TheVariants.{Here, Missing}
 use Rattle.memory.specs.declared.Sizes.{Sizes}
 use Rattle.memory.specs.Block.{Block, get}
 use Rattle.memory.specs.Content.{status_in, count_in, worker_in, put_worker, recovery_in, clear_body}
@@ -65,9 +63,9 @@ building (Working o d p) e = clash (cc)
 building (Reading a) e = clash (cc)
 building (ReadClear a v) e = clash (cc)
 
-missing : (f : Found) → not (is_missing f) ≡ false → f ≡ Missing
-missing (Here i) e = clash (cc)
-missing Missing e = refl
+missing : (f : Option ℕ) → not (is_missing f) ≡ false → f ≡ None
+missing (Some i) e = clash (cc)
+missing None e = refl
 
 -- nobody among the first workers owns d
 owned_no : (m : Block) (d i : ℕ) → owned_below m d i ≡ false → (v : ℕ) → v < i → owns (worker_in m v) d ≡ false
@@ -78,7 +76,7 @@ owned_no m d (suc i) e v l =
     elim (ℕ_discrete v i) [ yes p ↦ rw p z.1 | no p ↦ owned_no m d i z.0 v (omega arith) ]
 
 -- the entry that `entry_for` finds is below the count
-found_below : (m : Block) (d a i : ℕ) → entry_for Cached m d a ≡ Here i → i < count_in Cached m d
+found_below : (m : Block) (d a i : ℕ) → entry_for Cached m d a ≡ Some i → i < count_in Cached m d
 unfolding entry_for
 found_below m d a i e = go (has_at Cached m d a 0) (has_at Cached m d a 1) (has_at Cached m d a 2) (has_at Cached m d a 3) refl refl refl refl e
   where
@@ -86,7 +84,7 @@ found_below m d a i e = go (has_at Cached m d a 0) (has_at Cached m d a 1) (has_
     below j q t = rw (← q) (ltb-true j (count_in Cached m d) (and_first (ltb j (count_in Cached m d)) _ t))
 
     go : (t u v w : Bool) → has_at Cached m d a 0 ≡ t → has_at Cached m d a 1 ≡ u → has_at Cached m d a 2 ≡ v → has_at Cached m d a 3 ≡ w
-        → cond t (Here 0) (cond u (Here 1) (cond v (Here 2) (cond w (Here 3) Missing))) ≡ Here i → i < count_in Cached m d
+        → cond t (Some 0) (cond u (Some 1) (cond v (Some 2) (cond w (Some 3) None))) ≡ Some i → i < count_in Cached m d
     go true u v w e₀ e₁ e₂ e₃ f = below 0 (cc) e₀
     go false true v w e₀ e₁ e₂ e₃ f = below 1 (cc) e₁
     go false false true w e₀ e₁ e₂ e₃ f = below 2 (cc) e₂
@@ -105,10 +103,10 @@ module _ (n k w : ℕ) (nn : n ≤ 64) (kk : k ≤ 16) (ww : w ≤ 8) (kp : 0 < 
   acting v x e f p = record { below = below_8 v e; outside = outside (recovery_in m) f; is = p }
 
   -- 01
-  opened_follows : (v : ℕ) (f : Found) → Says m k f → Acts n k (view m) v Idle → is_missing f ≡ false → Follows n k m (Open v) (opened m v f)
+  opened_follows : (v : ℕ) (f : Option ℕ) → Says m k f → Acts n k (view m) v Idle → is_missing f ≡ false → Follows n k m (Open v) (opened m v f)
   unfolding qualifies
-  opened_follows v Missing y a e = clash (cc)
-  opened_follows v (Here d) y a e = subst (λ (s : State). Turn n k (view m) (Open v) s (Opened d))
+  opened_follows v None y a e = clash (cc)
+  opened_follows v (Some d) y a e = subst (λ (s : State). Turn n k (view m) (Open v) s (Opened d))
       (sym (view_put_worker (clear_body m d) (cleared_whole m d 13 h) v (Building d) a.below ∙ ap (λ (s : State). with_worker s v (Building d)) (view_clear_body m h d (omega (arith, y.below)))))
       (opens v d a y.below (is-free (status_in Cached m d) (and_first _ _ y.does)) (is-free (status_in Persisted m d) (and_first _ _ rest)) nobody)
     where
@@ -127,7 +125,7 @@ module _ (n k w : ℕ) (nn : n ≤ 64) (kk : k ≤ 16) (ww : w ≤ 8) (kp : 0 < 
 
   -- 02 and 03
   added_follows : (v : ℕ) (e : Entry) → Acts n k (view m) v (Building (build_of (worker_in m v))) → EntryFits n k e
-      → entry_for Cached m (build_of (worker_in m v)) e.address ≡ Missing → count_in Cached m (build_of (worker_in m v)) < 4
+      → entry_for Cached m (build_of (worker_in m v)) e.address ≡ None → count_in Cached m (build_of (worker_in m v)) < 4
       → Follows n k m (Add v e.address e.expected e.desired) (left (added m (build_of (worker_in m v)) e) Ok)
   added_follows v e a f q l = subst (λ (s : State). Turn n k (view m) (Add v e.address e.expected e.desired) s Ok)
       (sym (view_body (added m d e) m Cached d (λ o z. acted_kept o m (Add v e.address e.expected e.desired) z)))
@@ -142,11 +140,11 @@ module _ (n k w : ℕ) (nn : n ≤ 64) (kk : k ≤ 16) (ww : w ≤ 8) (kp : 0 < 
       p : PutIn (shift m h d dl e l q).p e (body_in Cached m d) (body_in Cached (added m d e) d)
       p = put_in m h d dl e l q
 
-  removed_follows : (v x : ℕ) (f : Found) → entry_for Cached m (build_of (worker_in m v)) x ≡ f → Acts n k (view m) v (Building (build_of (worker_in m v))) → is_missing f ≡ false
+  removed_follows : (v x : ℕ) (f : Option ℕ) → entry_for Cached m (build_of (worker_in m v)) x ≡ f → Acts n k (view m) v (Building (build_of (worker_in m v))) → is_missing f ≡ false
       → Follows n k m (Remove v x) (left (removed_at m (build_of (worker_in m v)) f) Ok)
-  removed_follows v x Missing q a e = clash (cc)
-  removed_follows v x (Here i) q a e = subst (λ (s : State). Turn n k (view m) (Remove v x) s Ok)
-      (sym (view_body (removed_entry m d i) m Cached d (λ o z. ap (λ (f : Found). get (removed_at m d f) o) (sym q) ∙ acted_kept o m (Remove v x) z)))
+  removed_follows v x None q a e = clash (cc)
+  removed_follows v x (Some i) q a e = subst (λ (s : State). Turn n k (view m) (Remove v x) s Ok)
+      (sym (view_body (removed_entry m d i) m Cached d (λ o z. ap (λ (f : Option ℕ). get (removed_at m d f) o) (sym q) ∙ acted_kept o m (Remove v x) z)))
       (removes v d x i (body_in Cached (removed_entry m d i) d) a
       (taken_out m h d (let z = built v d a.is in omega arith) i (found_below m d x i q) (rw (← body_length Cached m d) (fit.body Cached d).size)))
     where

@@ -1,6 +1,6 @@
 -- Where an operation answers: its worker is at the last place of its own job, and knows the outcome.
 use Rattle.std.specs.Prelude.{◌≡◌, refl, ◌≢◌, Bool, true, false, ℕ, suc, eqb, ltb}
-use Rattle.std.proofs.Common.{sym, ◌∙◌, subst, eqb-true}
+use Rattle.std.proofs.Common.{sym, ◌∙◌, subst, eqb-true, None, Option, Some}
 use Rattle.std.proofs.Math.Path.{ap}
 use Rattle.word.specs.declared.Sort.{Sort}
 use Rattle.word.specs.declared.Sort.TheVariants.{Plain, Pointer, Neither}
@@ -19,8 +19,6 @@ use Rattle.steps.specs.declared.Next.{Next}
 use Rattle.steps.specs.declared.Next.TheVariants.{Go, Help, Over, Wait, Answer}
 use Rattle.steps.specs.declared.ReadNext.{ReadNext}
 use Rattle.steps.specs.declared.ReadNext.TheVariants.{Meet, Clear, Value}
-use Rattle.steps.specs.declared.More.{More}
-use Rattle.steps.specs.declared.More.TheVariants.{Then, Done}
 use Rattle.steps.specs.declared.Plan.{Plan}
 use Rattle.memory.specs.declared.Copy.TheVariants.{Cached}
 use Rattle.memory.specs.Value.{is_success}
@@ -46,7 +44,7 @@ Quiet Over = Unit {0}
 Quiet Wait = Unit {0}
 Quiet (Answer o) = ⊥
 
-abbrev Silent : Plan → Type 0
+abbrev Silent : Plan Next → Type 0
 Silent p = Quiet p.next
 
 quiet_none : (x : Next) (o : Outcome) → Quiet x → answer_of x ≢ Answered o
@@ -56,9 +54,9 @@ quiet_none Over o h e = clash (cc)
 quiet_none Wait o h e = clash (cc)
 quiet_none (Answer q) o h e = h
 
-more_quiet : (i c : ℕ) (f : More → Next) → ((j : ℕ) → Quiet (f (Then j))) → Quiet (f Done) → Quiet (f (more_of i c))
+more_quiet : (i c : ℕ) (f : Option ℕ → Next) → ((j : ℕ) → Quiet (f (Some j))) → Quiet (f None) → Quiet (f (more_of i c))
 unfolding more_of
-more_quiet i c f a b = cond_if (λ (x : More). Quiet (f x)) (ltb (suc i) c) (Then (suc i)) Done (λ _. a (suc i)) (λ _. b)
+more_quiet i c f a b = cond_if (λ (x : Option ℕ). Quiet (f x)) (ltb (suc i) c) (Some (suc i)) None (λ _. a (suc i)) (λ _. b)
 
 module _ (d : ℕ) (x : Seen) where
   word_quiet : (s : Sort) (i : ℕ) → Silent (install_word i d x s)
@@ -86,7 +84,7 @@ module _ (d : ℕ) (x : Seen) where
   settle_quiet (Decided o false) = tt
   settle_quiet (Bad y) = tt
 
-  swapped_quiet : (owner : Bool) → Quiet (swapped owner Done)
+  swapped_quiet : (owner : Bool) → Quiet (swapped owner None)
   swapped_quiet true = tt
   swapped_quiet false = tt
 

@@ -1,5 +1,5 @@
 -- The machine on cells: what one event may do. It runs the plans of `steps` on whatever a step may see; what the table of refusals lets pass stands as premises.
-use Rattle.std.specs.Prelude.{◌≡◌, ◌≢◌, Bool, true, false, [], ℕ, suc, ◌<◌, ◌≤◌, ◌/◌, length}
+use Rattle.std.specs.Prelude.{◌≡◌, ◌≢◌, Bool, true, false, [], ℕ, suc, ◌<◌, ◌≤◌, ◌/◌, length, Option}
 use Rattle.word.specs.declared.Sort.{Sort}
 use Rattle.word.specs.declared.Status.TheVariants.{Free}
 use Rattle.steps.specs.declared.Place.{Place}
@@ -13,8 +13,6 @@ use Rattle.steps.specs.declared.Entry.{Entry}
 use Rattle.steps.specs.declared.Seen.{Seen}
 use Rattle.steps.specs.declared.Effect as F
 use Rattle.steps.specs.declared.Plan.{Plan}
-use Rattle.steps.specs.declared.ReadPlan.{ReadPlan}
-use Rattle.steps.specs.declared.RecoveryPlan.{RecoveryPlan}
 use Rattle.codes.specs.Place.{place_entry}
 use Rattle.memory.specs.declared.Copy.TheVariants.{Cached, Persisted}
 use Rattle.events.specs.declared.Event.{Event}
@@ -28,6 +26,8 @@ use Rattle.ledger.specs.Rules.{plan_of, read_plan, read_clear_plan, recovery_pla
 use Rattle.ledger.specs.Cells.{cell_of, Body, State, set_body, applied, crashed_cells, with_cells, with_worker, with_recovery, all_idle}
 use Rattle.ledger.specs.Seen.{entry_at, Sees}
 use Rattle.ledger.specs.Fits.{EntryFits}
+use Rattle.steps.specs.declared.Next.{Next}
+use Rattle.steps.specs.declared.ReadNext.{ReadNext}
 
 -- b with the entry e put in at place i, between a lower address and a higher one
 pub record PutIn (i : ℕ) (e : Entry) (b new : Body) : Type 0 where
@@ -46,13 +46,13 @@ pub record TakenOut (i : ℕ) (b new : Body) : Type 0 where
   pub after : (j : ℕ) → i ≤ j → j < length new → entry_at new j ≡ entry_at b (suc j)
 
 -- the plans carried out
-abbrev pub worker_done : State → ℕ → Own → ℕ → Place → Plan → State
+abbrev pub worker_done : State → ℕ → Own → ℕ → Place → Plan Next → State
 worker_done s w o d p q = with_worker (with_cells s (applied s.cells d q.effect)) w (worker_after o d p q.next)
 
-abbrev pub read_done : State → ℕ → ℕ → ReadPlan → State
+abbrev pub read_done : State → ℕ → ℕ → Plan ReadNext → State
 read_done s w a q = with_worker (with_cells s (applied s.cells 0 q.effect)) w (read_after a q.next)
 
-abbrev pub recovery_done : State → ℕ → ℕ → RecoveryPlan → State
+abbrev pub recovery_done : State → ℕ → ℕ → Plan (Option ℕ) → State
 recovery_done s k d q = with_recovery (with_cells s (applied s.cells d q.effect)) (place_after k d q.next)
 
 -- where Free is to be stored and is, no other worker is on d

@@ -1,6 +1,6 @@
 -- Every plan of an operation, of a read and of recovery has an effect that fits, and leads to a descriptor below k.
 use Rattle.std.specs.Prelude.{◌≡◌, refl, Bool, ◌&&◌, ℕ, suc, ◌<◌, ◌^◌, ◌/◌, ◌%◌, eqb, ltb, length}
-use Rattle.std.proofs.Common.{subst, arith, eqb-true}
+use Rattle.std.proofs.Common.{subst, arith, eqb-true, None, Option, Some}
 use Rattle.std.proofs.Math.Bool.{true, false}
 use Rattle.word.specs.declared.Sort.{Sort}
 use Rattle.word.specs.declared.Sort.TheVariants.{Plain, Pointer, Neither}
@@ -18,11 +18,7 @@ use Rattle.steps.specs.declared.Next.{Next}
 use Rattle.steps.specs.declared.Next.TheVariants.{Go, Help, Over, Wait, Answer}
 use Rattle.steps.specs.declared.ReadNext.{ReadNext}
 use Rattle.steps.specs.declared.ReadNext.TheVariants.{Meet, Clear, Value}
-use Rattle.steps.specs.declared.ReadPlan.{ReadPlan}
-use Rattle.steps.specs.declared.More.{More}
-use Rattle.steps.specs.declared.More.TheVariants.{Then, Done}
 use Rattle.steps.specs.declared.Plan.{Plan}
-use Rattle.steps.specs.declared.RecoveryPlan.{RecoveryPlan}
 use Rattle.steps.specs.Plan.{points_to, is_dirty_pointer, is_dirty_plain, left_value, chosen, outcome_of, store_if, is_free}
 use Rattle.codes.specs.Place.{place_entry}
 use Rattle.memory.specs.declared.Copy.{Copy}
@@ -76,10 +72,10 @@ dirty_pointer (Pointer x dirty) d e = rw (eqb-true x d (and_second dirty (eqb x 
 dirty_pointer (Neither w) d e = let z : ◌≡◌ {A = Bool} false true = e in cc
 
 module _ (n k : ℕ) where
-  abbrev pub PlanFits : Plan → Type 0
+  abbrev pub PlanFits : Plan Next → Type 0
   PlanFits p = EffectFits n k p.effect × NextFits k p.next
 
-  abbrev pub ReadPlanFits : ReadPlan → Type 0
+  abbrev pub ReadPlanFits : Plan ReadNext → Type 0
   ReadPlanFits p = EffectFits n k p.effect × ReadNextFits k p.next
 
   -- a store that is made if a test holds
@@ -94,9 +90,9 @@ module _ (n k : ℕ) where
       go Succeeded = h.desired
       go Failed = h.expected
 
-  next_fits : (i c : ℕ) (f : More → Next) → ((j : ℕ) → NextFits k (f (Then j))) → NextFits k (f Done) → NextFits k (f (more_of i c))
+  next_fits : (i c : ℕ) (f : Option ℕ → Next) → ((j : ℕ) → NextFits k (f (Some j))) → NextFits k (f None) → NextFits k (f (more_of i c))
   unfolding more_of
-  next_fits i c f a b = cond_if (λ (x : More). NextFits k (f x)) (ltb (suc i) c) (Then (suc i)) Done (λ _. a (suc i)) (λ _. b)
+  next_fits i c f a b = cond_if (λ (x : Option ℕ). NextFits k (f x)) (ltb (suc i) c) (Some (suc i)) None (λ _. a (suc i)) (λ _. b)
 
   module _ (d : ℕ) (dk : d < k) (x : Seen) (word : CellFits n k (cell_of x.word)) where
     -- by the status and the word alone, where the entry is in range
@@ -135,7 +131,7 @@ module _ (n k : ℕ) where
         next_fits i x.count (swapped owner) (λ j. tt) (end owner),
       )
         where
-          end : (t : Bool) → NextFits k (swapped t Done)
+          end : (t : Bool) → NextFits k (swapped t None)
           end true = tt
           end false = tt
 
@@ -207,7 +203,7 @@ module _ (n k : ℕ) where
   module _ (M : Cells) (g : CellsFit n k M) (d i : ℕ) (c : Copy) (x : Seen) (v : Sees M c d i x) where
     entry_step_fits : (done : ℕ) → i < length (M.body c d) → EffectFits n k (entry_step d done x).effect
     unfolding entry_step
-    entry_step_fits done h = cond_if (λ (r : RecoveryPlan). EffectFits n k r.effect) (eqb (done % 2) 0) _ _
+    entry_step_fits done h = cond_if (λ (r : Plan (Option ℕ)). EffectFits n k r.effect) (eqb (done % 2) 0) _ _
         (λ _. store_fits (points_to x.word d) x.entry.address (Plain (left_value x.status x.entry) false) (λ _. (e.address, left_fits x.status x.entry e)))
         (λ _. e.address)
       where
@@ -216,9 +212,9 @@ module _ (n k : ℕ) where
 
     end_step_fits : (done : ℕ) → EffectFits n k (end_step done).effect
     unfolding end_step
-    end_step_fits done = cond_if (λ (r : RecoveryPlan). EffectFits n k r.effect) (eqb (done % 2) 0) _ _ (λ _. tt) (λ _. tt)
+    end_step_fits done = cond_if (λ (r : Plan (Option ℕ)). EffectFits n k r.effect) (eqb (done % 2) 0) _ _ (λ _. tt) (λ _. tt)
 
     pub recovery_fits : (done : ℕ) → i ≡ done / 2 → EffectFits n k (recovery_plan d done x).effect
     unfolding recovery_plan live_step
-    recovery_fits done q = cond_if (λ (r : RecoveryPlan). EffectFits n k r.effect) (eqb done 0 && is_free x.status) _ _ (λ _. tt)
-        (λ _. cond_both (λ (r : RecoveryPlan). EffectFits n k r.effect) done 8 (done / 2) _ _ _ (λ _ l. entry_step_fits done (let c = v.count in omega arith)) (λ _. end_step_fits done))
+    recovery_fits done q = cond_if (λ (r : Plan (Option ℕ)). EffectFits n k r.effect) (eqb done 0 && is_free x.status) _ _ (λ _. tt)
+        (λ _. cond_both (λ (r : Plan (Option ℕ)). EffectFits n k r.effect) done 8 (done / 2) _ _ _ (λ _ l. entry_step_fits done (let c = v.count in omega arith)) (λ _. end_step_fits done))

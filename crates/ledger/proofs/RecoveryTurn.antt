@@ -1,6 +1,6 @@
 -- A step of recovery (record 0C) keeps the invariant of the machine.
 use Rattle.std.specs.Prelude.{◌≡◌, refl, ◌≢◌, ◌⊎◌, Bool, true, false, ◌&&◌, ℕ, suc, ◌*◌, ◌/◌, ◌%◌, ◌≤◌, ◌<◌, eqb}
-use Rattle.std.proofs.Common.{sym, ◌∙◌, ap, subst, inr, ⊎_elim, arith, eqb-true, eq-eqb}
+use Rattle.std.proofs.Common.{sym, ◌∙◌, ap, subst, inr, ⊎_elim, arith, eqb-true, eq-eqb, None, Option, Some}
 use Rattle.std.proofs.Math.Logic.{inl}
 use Rattle.std.proofs.Math.Decide.{ℕ_discrete, dec_lt}
 use Rattle.std.proofs.Math.ListN.{length}
@@ -12,10 +12,8 @@ use Rattle.word.specs.declared.Status.TheVariants.{Free, Undecided, Decided, Bad
 use Rattle.steps.specs.declared.Entry.{Entry}
 use Rattle.steps.specs.declared.Seen.{Seen}
 use Rattle.steps.specs.declared.Effect as F
-use Rattle.steps.specs.declared.More.TheVariants.{Then, Done}
 use Rattle.steps.specs.declared.RecoveryPlace.{RecoveryPlace}
 use Rattle.steps.specs.declared.RecoveryPlace.TheVariants.{Outside, At}
-use Rattle.steps.specs.declared.RecoveryPlan.{RecoveryPlan}
 use Rattle.steps.specs.Plan.{points_to, is_free, store_if}
 use Rattle.memory.specs.declared.Copy.{Copy}
 use Rattle.memory.specs.declared.Copy.TheVariants.{Cached, Persisted}
@@ -41,6 +39,7 @@ use Rattle.ledger.specs.Invariant.{AsSent, AtEntries, AtEnd, Recovering, Recover
 use Rattle.ledger.proofs.Machine.{recovery_done}
 use Rattle.ledger.specs.Keep.{keep_recovery}
 use Rattle.ledger.proofs.WorkTurn.{L⁺, In⁺, Goal, gl, gi, bodies⁺}
+use Rattle.steps.specs.declared.Plan.{Plan}
 
 free_test : (s : Status) → s ≡ Free → is_free s ≡ true
 free_test s e = rw e
@@ -108,11 +107,11 @@ module _ (n k : ℕ) {s : State} {L : ℕ → ℕ} {In : ℕ → Bool} {Differed
     })
 
     module _ (x : Seen) (v : Sees M Persisted d (t / 2) x) where
-      abbrev Ok : RecoveryPlan → Type 0
+      abbrev Ok : Plan (Option ℕ) → Type 0
       Ok q = End (recovery_done s k d q)
 
       -- a Free descriptor is passed by
-      pass : t ≡ 0 → M.status Persisted d ≡ Free → Ok (recovery_step F.TheVariants.Nothing Done)
+      pass : t ≡ 0 → M.status Persisted d ≡ Free → Ok (recovery_step F.TheVariants.Nothing None)
       pass z f = next Rule.same tt I.fits h.bodies (λ c e l. elim (ℕ_discrete e d) [ yes q ↦ rw q (both c) | no q ↦ h.behind c e (omega arith) ]) h.ahead
         where
           both : (c : Copy) → M.status c d ≡ Free
@@ -151,7 +150,7 @@ module _ (n k : ℕ) {s : State} {L : ℕ → ℕ} {In : ℕ → Bool} {Differed
           persisted = rw (bs, ps) (λ j l. y.persisted j (omega arith));
         }))
 
-        first : t % 2 ≡ 0 → (f : Bool) → points_to x.word d ≡ f → EffectFits n k (store_if f a (Plain w false)) → Ok (recovery_step (store_if f a (Plain w false)) (Then (suc t)))
+        first : t % 2 ≡ 0 → (f : Bool) → points_to x.word d ≡ f → EffectFits n k (store_if f a (Plain w false)) → Ok (recovery_step (store_if f a (Plain w false)) (Some (suc t)))
         first even true p fit =
             gone (Rule.swap d a w (points x.word d (M.word Cached a) (sym v.word) p) value (ap succeeded y.alike)) tt (fit_applied n k M I.fits d (F.TheVariants.StoreWord a (Plain w false)) fit) even refl refl refl
             (λ j q. upd_at (λ (c : Cell). ¬ (Belongs d c)) (M.word Cached) a j (plain w) q (λ z. clash (cc)))
@@ -159,7 +158,7 @@ module _ (n k : ℕ) {s : State} {L : ℕ → ℕ} {In : ℕ → Bool} {Differed
         first even false p fit = gone Rule.same tt I.fits even refl refl refl (λ j q. q) (points_not x.word d (M.word Cached a) (sym v.word) p)
 
         -- and its persisted copy
-        second : t % 2 ≢ 0 → EffectFits n k (F.TheVariants.BackWord a) → Ok (recovery_step (F.TheVariants.BackWord a) (Then (suc t)))
+        second : t % 2 ≢ 0 → EffectFits n k (F.TheVariants.BackWord a) → Ok (recovery_step (F.TheVariants.BackWord a) (Some (suc t)))
         second odd fit = on (Rule.back-word a) tt (fit_applied n k M I.fits d (F.TheVariants.BackWord a) fit) refl (λ c e _. refl) (inl (record {
           steps = omega (arith, y.steps);
           alike = y.alike;
@@ -172,10 +171,10 @@ module _ (n k : ℕ) {s : State} {L : ℕ → ℕ} {In : ℕ → Bool} {Differed
 
         entry_ok : EffectFits n k (entry_step d t x).effect → Ok (entry_step d t x)
         unfolding entry_step
-        entry_ok = cond_if (λ (q : RecoveryPlan). EffectFits n k q.effect → Ok q) (eqb (t % 2) 0) _ _ (λ e. first (eqb-true (t % 2) 0 e) (points_to x.word d) refl) (λ e. second (eqb-false (t % 2) 0 e))
+        entry_ok = cond_if (λ (q : Plan (Option ℕ)). EffectFits n k q.effect → Ok q) (eqb (t % 2) 0) _ _ (λ e. first (eqb-true (t % 2) 0 e) (points_to x.word d) refl) (λ e. second (eqb-false (t % 2) 0 e))
 
       -- all entries are done
-      free_ok : t ≡ 2 * length b → AtEntries M d t → Ok (recovery_step (F.TheVariants.StoreStatus Free) (Then (suc t)))
+      free_ok : t ≡ 2 * length b → AtEntries M d t → Ok (recovery_step (F.TheVariants.StoreStatus Free) (Some (suc t)))
       free_ok z y = on (Rule.store-free d none) tt (fit_applied n k M I.fits d (F.TheVariants.StoreStatus Free) tt) refl elsewhere
           (inr (record { steps = omega arith; cached = upd_same (M.status Cached) d Free }))
         where
@@ -187,7 +186,7 @@ module _ (n k : ℕ) {s : State} {L : ℕ → ℕ} {In : ℕ → Bool} {Differed
           elsewhere Cached e q = upd_other (M.status Cached) d Free e q
           elsewhere Persisted e q = refl
 
-      last_ok : AtEnd M d t → Ok (recovery_step F.TheVariants.BackStatus Done)
+      last_ok : AtEnd M d t → Ok (recovery_step F.TheVariants.BackStatus None)
       last_ok y = next (Rule.back-status d) tt (fit_applied n k M I.fits d F.TheVariants.BackStatus tt) h.bodies behind
           (λ e l. upd_if (λ (c : Status). M.status Cached e ≡ c) (M.status Persisted) d e (M.status Cached d) (λ q. rw q) (λ _. h.ahead e l))
         where
@@ -231,11 +230,11 @@ module _ (n k : ℕ) {s : State} {L : ℕ → ℕ} {In : ℕ → Bool} {Differed
       -- by the test that the rule makes
       live_ok : (eqb t 0 && is_free x.status) ≡ false → EffectFits n k (live_step d t x).effect → Ok (live_step d t x)
       unfolding live_step
-      live_ok e = cond_both (λ (q : RecoveryPlan). EffectFits n k q.effect → Ok q) t 8 (t / 2) _ _ _ (λ p i. entry_case e (omega arith)) (λ f _. end_case (λ p i. f p (omega arith)))
+      live_ok e = cond_both (λ (q : Plan (Option ℕ)). EffectFits n k q.effect → Ok q) t 8 (t / 2) _ _ _ (λ p i. entry_case e (omega arith)) (λ f _. end_case (λ p i. f p (omega arith)))
 
       pub recovery_ok : Ok (recovery_plan d t x)
       unfolding recovery_plan
-      recovery_ok = cond_if (λ (q : RecoveryPlan). EffectFits n k q.effect → Ok q) (eqb t 0 && is_free x.status) _ _
+      recovery_ok = cond_if (λ (q : Plan (Option ℕ)). EffectFits n k q.effect → Ok q) (eqb t 0 && is_free x.status) _ _
           (λ e _. pass (eqb-true t 0 (and_first (eqb t 0) (is_free x.status) e)) (sym v.status ∙ is-free x.status (and_second (eqb t 0) (is_free x.status) e)))
           live_ok
           (recovery_fits n k M I.fits d (t / 2) Persisted x v t refl)

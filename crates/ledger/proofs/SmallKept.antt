@@ -1,7 +1,7 @@
 -- Each event keeps every number of a word, a status and a body below 2^64; so they are at every moment of a history.
 use Rattle.std.specs.Prelude.{◌≡◌, false, List, leb, length, get_or}
 use Rattle.std.proofs.Math.Path.{refl}
-use Rattle.std.proofs.Common.{ap, subst, arith, leb-false}
+use Rattle.std.proofs.Common.{ap, subst, arith, leb-false, None, Option, Some, ℕ}
 use Prim.Native.Nat.{ℕ, zero, suc, ◌/◌, ◌<◌, ◌≤◌, ◌^◌}
 use Rattle.std.proofs.Math.Decide.{dec_lt}
 use Rattle.steps.specs.declared.Own.TheVariants.{Operation}
@@ -13,8 +13,6 @@ use Rattle.steps.specs.declared.RecoveryPlace.TheVariants.{Outside, At}
 use Rattle.steps.specs.declared.Effect as F
 use Rattle.codes.specs.Place.{place_entry}
 use Rattle.memory.specs.declared.Copy.TheVariants.{Cached, Persisted}
-use Rattle.memory.specs.declared.Found.{Found}
-use Rattle.memory.specs.declared.Found.TheVariants.{Here, Missing}
 use Rattle.memory.specs.declared.Sizes.{Sizes}
 use Rattle.memory.specs.Block.{Block}
 use Rattle.memory.specs.Content.{word_in, worker_in, recovery_in, clear_body}
@@ -49,9 +47,9 @@ module _ (n k w : ℕ) (nn : n ≤ 64) (kk : k ≤ 16) (m : Block) (h : Whole m)
   below_16 : (d : ℕ) → leb (sizes_in m).k d ≡ false → d < 16
   below_16 d e = let z = below_k n k w m sizes d e in omega arith
 
-  opened_small : (v : ℕ) (f : Found) → Small (opened m v f).memory
-  opened_small v (Here d) = worker_small (clear_body m d) (cleared_small 13 m d s h) v (Building d)
-  opened_small v Missing = s
+  opened_small : (v : ℕ) (f : Option ℕ) → Small (opened m v f).memory
+  opened_small v (Some d) = worker_small (clear_body m d) (cleared_small 13 m d s h) v (Building d)
+  opened_small v None = s
 
   step_small : (v : ℕ) (x : Worker) → WorkerFits n k (cells_of m) x → Small (step_of m v x).memory
   unfolding work_step plan_at read_step read_clear_step

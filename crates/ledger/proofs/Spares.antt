@@ -1,5 +1,5 @@
 -- A field that is no word, status or body: what a step, an opening and recovery change does not touch it, unless it is the worker's row or recovery's place.
-use Rattle.std.specs.Prelude.{◌≡◌, ℕ}
+use Rattle.std.specs.Prelude.{◌≡◌, ℕ, None, Option, Some}
 use Rattle.steps.specs.declared.Worker.{Worker}
 use Rattle.steps.specs.declared.Worker.TheVariants.{Idle, Building, Working, Reading, ReadClear}
 use Rattle.steps.specs.declared.RecoveryPlace.{RecoveryPlace}
@@ -8,8 +8,6 @@ use Rattle.steps.specs.declared.Effect.{Effect}
 use Rattle.steps.specs.declared.Effect.TheVariants.{Nothing, StoreWord, BackWord, StoreStatus, BackStatus, BackBody}
 use Rattle.memory.specs.declared.Copy.{Copy}
 use Rattle.memory.specs.declared.Copy.TheVariants.{Cached, Persisted}
-use Rattle.memory.specs.declared.Found.{Found}
-use Rattle.memory.specs.declared.Found.TheVariants.{Here, Missing}
 use Rattle.memory.specs.Block.{Block, Field}
 use Rattle.memory.specs.Block.Field.{word, status, recovery}
 use Rattle.memory.specs.Content.{word_in}
@@ -39,9 +37,9 @@ module _ (f : Field) (apart : Apart f) where
   step_spares m w (Reading a) n = (effect_spares 0 (read_plan a (word_in Cached m a)).effect, n)
   step_spares m w (ReadClear a v) n = (effect_spares 0 (read_clear_plan a v (word_in Cached m a)).effect, n)
 
-  pub open_spares : (w : ℕ) (g : Found) → NotWorker w f → SparedByOpen w g f
-  open_spares w (Here d) n = (apart.bodies Cached d, n)
-  open_spares w Missing n = tt
+  pub open_spares : (w : ℕ) (g : Option ℕ) → NotWorker w f → SparedByOpen w g f
+  open_spares w (Some d) n = (apart.bodies Cached d, n)
+  open_spares w None n = tt
 
   pub recovery_spares : (m : Block) (p : RecoveryPlace) → ((j : ℕ) → recovery j ≡ f → ⊥) → SparedByRecovery m p f
   recovery_spares m Outside n = tt

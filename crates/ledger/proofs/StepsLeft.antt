@@ -2,7 +2,7 @@
 -- event but a crash leaves their number as it is, a write-back of a status or of a body too.
 use Rattle.std.specs.Prelude.{◌≡◌, ◌≢◌, ◌⊎◌, Bool, true, ℕ, suc, ◌+◌, ◌*◌, ◌/◌, ◌%◌, ◌<◌, ◌≤◌}
 use Rattle.std.proofs.Math.Path.{refl, ap}
-use Rattle.std.proofs.Common.{sym, ◌∙◌, subst, inl, inr, arith}
+use Rattle.std.proofs.Common.{sym, ◌∙◌, subst, inl, inr, arith, Option}
 use Rattle.std.proofs.Math.ListN.{length}
 use Rattle.word.specs.declared.Status.{Status}
 use Rattle.steps.specs.declared.Seen.{Seen}
@@ -10,7 +10,6 @@ use Rattle.steps.specs.declared.Next.{Next}
 use Rattle.steps.specs.declared.Next.TheVariants.{Go, Help, Over, Wait, Answer}
 use Rattle.steps.specs.declared.ReadNext.{ReadNext}
 use Rattle.steps.specs.declared.ReadNext.TheVariants.{Meet, Clear, Value}
-use Rattle.steps.specs.declared.RecoveryPlan.{RecoveryPlan}
 use Rattle.steps.specs.declared.RecoveryPlace.{RecoveryPlace}
 use Rattle.steps.specs.declared.RecoveryPlace.TheVariants.{Outside, At}
 use Rattle.steps.specs.Plan.{is_free}
@@ -31,6 +30,7 @@ use Rattle.ledger.specs.Seen.{Sees}
 use Rattle.ledger.specs.Fits.{CellsFit}
 use Rattle.ledger.specs.Invariant.{AtEntries, AtEnd, Recovering, Recovery, Invariant}
 use Rattle.ledger.proofs.Machine.{Turn, refused, opens, adds, removes, submits, discards, begins, works, reads, clears, backs_word, backs_status, backs_body, crashes, recovers}
+use Rattle.steps.specs.declared.Plan.{Plan}
 
 -- what cells hold of the descriptors
 abbrev pub held_by : Cells → Held
@@ -64,7 +64,7 @@ module _ (n k : ℕ) {s : State} {L : ℕ → ℕ} {In : ℕ → Bool} {Differed
     abbrev c : ℕ
     c = length (M.body Persisted d)
 
-    abbrev OneLess : RecoveryPlan → Type 0
+    abbrev OneLess : Plan (Option ℕ) → Type 0
     OneLess q = steps_left k (held_by M) (At d t) ≡ suc (steps_left k (held_by (applied M d q.effect)) (place_after k d q.next))
 
     -- it goes on at d, and changes no persisted status or body

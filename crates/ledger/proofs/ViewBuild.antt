@@ -1,10 +1,9 @@
 -- Records 02 and 03 on the view: an entry put in, an entry taken out.
 use Rattle.std.specs.Prelude.{◌≡◌, refl, ◌≢◌, Bool, true, false, cond, ℕ, zero, suc, ◌+◌, ◌-◌, ◌<◌, ◌≤◌}
-use Rattle.std.proofs.Common.{sym, ap, ◌∙◌, subst, arith, lt-ltb, eq-eqb}
+use Rattle.std.proofs.Common.{sym, ap, ◌∙◌, subst, arith, lt-ltb, eq-eqb, None, Some}
 use Rattle.std.proofs.Math.Decide.{ℕ_discrete}
 use Rattle.steps.specs.declared.Entry.{Entry}
 use Rattle.memory.specs.declared.Copy.TheVariants.{Cached}
-use Rattle.memory.specs.declared.Found.TheVariants.{Here, Missing}
 use Rattle.memory.specs.Block.{Block}
 use Rattle.memory.specs.Block.Field.{body}
 use Rattle.memory.specs.Content.{count_in, put_count, entry_in, put_entry}
@@ -104,7 +103,7 @@ module _ (m : Block) (h : Whole m) (d n : ℕ) (l : d < 16) where
   count_entry j = same_entry m (put_count m d n) Cached d j (λ t a b. get_other m (body Cached d 0) n (body Cached d t) (λ z. let w : 0 ≡ t = cc in omega arith))
 
 -- no entry has the address
-pub missing_not : (m : Block) (d a : ℕ) → entry_for Cached m d a ≡ Missing → (j : ℕ) → j < 4 → j < count_in Cached m d → address_in m d j ≢ a
+pub missing_not : (m : Block) (d a : ℕ) → entry_for Cached m d a ≡ None → (j : ℕ) → j < 4 → j < count_in Cached m d → address_in m d j ≢ a
 unfolding entry_for
 missing_not m d a e j l c p = go (has_at Cached m d a 0) (has_at Cached m d a 1) (has_at Cached m d a 2) (has_at Cached m d a 3) refl refl refl refl e
   where
@@ -115,7 +114,7 @@ missing_not m d a e j l c p = go (has_at Cached m d a 0) (has_at Cached m d a 1)
     which i q f = let t : has_at Cached m d a i ≡ true = rw (← q) at_j in clash (cc)
 
     go : (t u v w : Bool) → has_at Cached m d a 0 ≡ t → has_at Cached m d a 1 ≡ u → has_at Cached m d a 2 ≡ v → has_at Cached m d a 3 ≡ w
-        → cond t (Here 0) (cond u (Here 1) (cond v (Here 2) (cond w (Here 3) Missing))) ≡ Missing → ⊥
+        → cond t (Some 0) (cond u (Some 1) (cond v (Some 2) (cond w (Some 3) None))) ≡ None → ⊥
     go true u v w e₀ e₁ e₂ e₃ f = clash (cc)
     go false true v w e₀ e₁ e₂ e₃ f = clash (cc)
     go false false true w e₀ e₁ e₂ e₃ f = clash (cc)
@@ -129,7 +128,7 @@ missing_not m d a e j l c p = go (has_at Cached m d a 0) (has_at Cached m d a 1)
     ]
 
 -- 02
-module _ (m : Block) (h : Whole m) (d : ℕ) (l : d < 16) (e : Entry) (room : count_in Cached m d < 4) (new-one : entry_for Cached m d e.address ≡ Missing) where
+module _ (m : Block) (h : Whole m) (d : ℕ) (l : d < 16) (e : Entry) (room : count_in Cached m d < 4) (new-one : entry_for Cached m d e.address ≡ None) where
   abbrev c : ℕ
   c = count_in Cached m d
 

@@ -1,7 +1,7 @@
 -- One step of an operation is a rule, and brings what its next place knows. It is the plan of `steps`, on whatever the step may see.
 use Rattle.std.specs.Prelude.{◌≡◌, ◌≢◌, Bool, true, false}
 use Rattle.std.proofs.Math.Path.{refl, sym, ap}
-use Rattle.std.proofs.Common.{◌∙◌, subst}
+use Rattle.std.proofs.Common.{◌∙◌, subst, None, Option, Some, ℕ}
 use Prim.Native.Nat.{ℕ, suc, ◌<◌}
 use native.Mathlib.Omega.{arith}
 use Rattle.std.proofs.Math.ListN.{length}
@@ -19,8 +19,6 @@ use Rattle.steps.specs.declared.Seen.{Seen}
 use Rattle.steps.specs.declared.Effect.TheVariants.{Nothing}
 use Rattle.steps.specs.declared.Next.{Next}
 use Rattle.steps.specs.declared.Next.TheVariants.{Go}
-use Rattle.steps.specs.declared.More.{More}
-use Rattle.steps.specs.declared.More.TheVariants.{Then, Done}
 use Rattle.steps.specs.declared.Plan.{Plan}
 use Rattle.steps.specs.Plan.{planned, points_to, is_dirty_pointer, is_dirty_plain, left_value, store_if}
 use Rattle.codes.specs.Place.{place_entry}
@@ -52,7 +50,7 @@ module _ {M : Cells} {L : ℕ → ℕ} {In : ℕ → Bool} {Differed : ℕ → T
   abbrev pub Ok : Cells → Next → Type 0
   Ok new n = (r : Rule M In Differed new) × ((e : ℕ) → ¬ (OwnersOnly r e)) × NextKnown owner new b d D n
 
-  abbrev pub PlanOk : Plan → Type 0
+  abbrev pub PlanOk : Plan Next → Type 0
   PlanOk q = Ok (applied M d q.effect) q.next
 
   -- such a rule keeps what this worker knows
@@ -90,7 +88,7 @@ module _ {M : Cells} {L : ℕ → ℕ} {In : ℕ → Bool} {Differed : ℕ → T
     -- 2. the entry's word is d's: the next entry, or step 3
     next_install : (new : Cells) → Installed new b d (suc i) 0 → NextKnown owner new b d D (installed (more_of i x.count))
     unfolding more_of
-    next_install new s = rw v.count (cond_lt (λ (y : More). NextKnown owner new b d D (installed y)) (suc i) (length b) (Then (suc i)) Done
+    next_install new s = rw v.count (cond_lt (λ (y : Option ℕ). NextKnown owner new b d D (installed y)) (suc i) (length b) (Some (suc i)) None
         (λ h. ((s, h), may owner (at_install (suc i))))
         (λ h. let e : suc i ≡ length b = omega arith in ((rw e at s, proper.some), may owner (at_persist 0))))
 
@@ -165,7 +163,7 @@ module _ {M : Cells} {L : ℕ → ℕ} {In : ℕ → Bool} {Differed : ℕ → T
     unfolding persist_clear more_of
     persist_clear_ok k = bit_alone (is_dirty_pointer x.word d) a (Pointer d false) (persisted (more_of i x.count))
         (λ t. sym v.word ∙ ap cell_of (dirty_pointer x.word d t))
-        (rw v.count (cond_lt (λ (y : More). NextKnown owner M b d D (persisted y)) (suc i) (length b) (Then (suc i)) Done
+        (rw v.count (cond_lt (λ (y : Option ℕ). NextKnown owner M b d D (persisted y)) (suc i) (length b) (Some (suc i)) None
         (λ h. ((k, h), may owner (at_persist (suc i))))
         (λ h. let e : suc i ≡ length b = omega arith in (rw e at k, may owner (at_decide Succeeded)))))
 
@@ -232,7 +230,7 @@ module _ {M : Cells} {L : ℕ → ℕ} {In : ℕ → Bool} {Differed : ℕ → T
     unfolding swap_clear more_of
     swap_clear_ok k = bit_alone (is_dirty_plain x.word w) a (Plain w false) (swapped owner (more_of i x.count))
         (λ t. sym v.word ∙ ap cell_of (dirty_plain x.word w t))
-        (rw v.count (cond_lt (λ (y : More). NextKnown owner M b d D (swapped owner y)) (suc i) (length b) (Then (suc i)) Done
+        (rw v.count (cond_lt (λ (y : Option ℕ). NextKnown owner M b d D (swapped owner y)) (suc i) (length b) (Some (suc i)) None
         (λ h. ((k, h), may owner (at_swap (suc i))))
         (λ h. let e : suc i ≡ length b = omega arith in end owner (rw e at k))))
       where

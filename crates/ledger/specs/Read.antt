@@ -1,7 +1,7 @@
 -- Reading the block and reading its cells agree: the value of a word, and the ledger after an operation.
 use Rattle.std.specs.Prelude.{◌≡◌, Bool, true, cond, ◌&&◌, [], ◌∷◌, eqb, ltb}
 use Rattle.std.proofs.Math.Path.{refl, sym, ap}
-use Rattle.std.proofs.Common.{◌∙◌, arith, eqb-true}
+use Rattle.std.proofs.Common.{◌∙◌, arith, eqb-true, None, Option, Some, ℕ}
 use Rattle.std.proofs.Math.Bool.{false}
 use Prim.Native.Nat.{ℕ, zero, suc, ◌≤◌}
 use Rattle.std.proofs.lemmas.Bool.{eqb-false}
@@ -9,8 +9,6 @@ use Rattle.word.specs.declared.Sort.{Sort}
 use Rattle.word.specs.declared.Sort.TheVariants.{Plain, Pointer, Neither}
 use Rattle.steps.specs.declared.Entry.{Entry}
 use Rattle.memory.specs.declared.Copy.TheVariants.{Persisted}
-use Rattle.memory.specs.declared.Found.{Found}
-use Rattle.memory.specs.declared.Found.TheVariants.{Here, Missing}
 use Rattle.memory.specs.Block.{Block}
 use Rattle.memory.specs.Content.{word_in, status_in, count_in, entry_in}
 use Rattle.memory.specs.Value.{entry_for, succeeded, found_value, sort_value, value_of}
@@ -48,12 +46,12 @@ upd_test f x v a = go (eqb x a) refl
     go false e = upd_other f x v a (λ z. eqb-false x a e (sym z))
 
 -- g of the entry found, or y
-abbrev found : (Entry → ℕ) → ℕ → (ℕ → Entry) → Found → ℕ
-found g y f (Here i) = g (f i)
-found g y f Missing = y
+abbrev found : (Entry → ℕ) → ℕ → (ℕ → Entry) → Option ℕ → ℕ
+found g y f (Some i) = g (f i)
+found g y f None = y
 
 found_four : (g : Entry → ℕ) (y : ℕ) (f : ℕ → Entry) (p q r s : Bool)
-    → found g y f (cond p (Here 0) (cond q (Here 1) (cond r (Here 2) (cond s (Here 3) Missing)))) ≡ cond p (g (f 0)) (cond q (g (f 1)) (cond r (g (f 2)) (cond s (g (f 3)) y)))
+    → found g y f (cond p (Some 0) (cond q (Some 1) (cond r (Some 2) (cond s (Some 3) None)))) ≡ cond p (g (f 0)) (cond q (g (f 1)) (cond r (g (f 2)) (cond s (g (f 3)) y)))
 found_four g y f true q r s = refl
 found_four g y f false true r s = refl
 found_four g y f false false true s = refl
@@ -68,7 +66,7 @@ module _ (g : Entry → ℕ) (L : ℕ → ℕ) (a : ℕ) (f : ℕ → Entry) whe
   at : ℕ → ℕ → Bool
   at c i = ltb i c && eqb (f i).address a
 
-  chain_found : (c : ℕ) → c ≤ 4 → chain g (firsts c f) L a ≡ found g (L a) f (cond (at c 0) (Here 0) (cond (at c 1) (Here 1) (cond (at c 2) (Here 2) (cond (at c 3) (Here 3) Missing))))
+  chain_found : (c : ℕ) → c ≤ 4 → chain g (firsts c f) L a ≡ found g (L a) f (cond (at c 0) (Some 0) (cond (at c 1) (Some 1) (cond (at c 2) (Some 2) (cond (at c 3) (Some 3) None))))
   unfolding chain firsts at
   chain_found zero l = refl
   chain_found (suc zero) l = step 0 _ _ refl ∙ sym (found_four g (L a) f (eqb (f 0).address a) false false false)
@@ -87,19 +85,19 @@ module _ (m : Block) (d : ℕ) (small : count_in Persisted m d ≤ 4) where
   unfolding entered
   entered_cells L a = go (entry_for Persisted m d a) ∙ sym (chain_for (λ e. e.desired) L a) ∙ ap (λ (f : ℕ → ℕ). f a) (sym (put_chain (body_in Persisted m d) L))
     where
-      go : (o : Found) → desired_or m d (L a) o ≡ found (λ e. e.desired) (L a) (entry_in Persisted m d) o
-      go (Here i) = refl
-      go Missing = refl
+      go : (o : Option ℕ) → desired_or m d (L a) o ≡ found (λ e. e.desired) (L a) (entry_in Persisted m d) o
+      go (Some i) = refl
+      go None = refl
 
   pub stands_cells : (a : ℕ) → found_value m d (entry_for Persisted m d a) ≡ stands (status_in Persisted m d) (body_in Persisted m d) a
   stands_cells a = rw (desired_chain (body_in Persisted m d), expected_chain (body_in Persisted m d), chain_for (λ e. e.desired) (λ a. 0) a, chain_for (λ e. e.expected) (λ a. 0) a)
       (go (entry_for Persisted m d a) (succeeded (status_in Persisted m d)) refl)
     where
-      go : (o : Found) (t : Bool) → succeeded (status_in Persisted m d) ≡ t
+      go : (o : Option ℕ) (t : Bool) → succeeded (status_in Persisted m d) ≡ t
           → found_value m d o ≡ cond (succeeded (status_in Persisted m d)) (found (λ e. e.desired) 0 (entry_in Persisted m d) o) (found (λ e. e.expected) 0 (entry_in Persisted m d) o)
-      go (Here i) t e = refl
-      go Missing true e = rw e
-      go Missing false e = rw e
+      go (Some i) t e = refl
+      go None true e = rw e
+      go None false e = rw e
 
 -- the value of a word is what its persisted cell means
 pub value_cells : (m : Block) → ((d : ℕ) → count_in Persisted m d ≤ 4) → (a : ℕ) → value_of m a ≡ means (cells_of m) a (cell_of (word_in Persisted m a))

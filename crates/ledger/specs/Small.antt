@@ -2,7 +2,7 @@
 -- is stored is such a number, and what is written back or copied was one.
 use Rattle.std.specs.Prelude.{◌≡◌, Bool, cond, ℕ, zero, suc, ◌+◌, ◌-◌, ◌*◌, ◌<◌, ◌^◌, eqb}
 use Rattle.std.proofs.Math.Path.{refl}
-use Rattle.std.proofs.Common.{ap, arith}
+use Rattle.std.proofs.Common.{ap, arith, None, Option, Some}
 use Rattle.std.proofs.Math.Bool.{true, false}
 use Rattle.std.proofs.Math.Dec.{ltb}
 use borrow.Author.Tests.{eqb-true, eqb-false, ltb-true, ltb-false}
@@ -22,8 +22,6 @@ use Rattle.steps.specs.declared.Effect.TheVariants.{Nothing, StoreWord, BackWord
 use Rattle.codes.specs.Row.{row_of}
 use Rattle.memory.specs.declared.Copy.{Copy}
 use Rattle.memory.specs.declared.Copy.TheVariants.{Cached, Persisted}
-use Rattle.memory.specs.declared.Found.{Found}
-use Rattle.memory.specs.declared.Found.TheVariants.{Here, Missing}
 use Rattle.memory.specs.Block.{Block, Field, nowhere, slot, get, put}
 use Rattle.memory.specs.Block.Field.{word, status, body, worker, size, recovery}
 use Rattle.memory.specs.Content.{count_in, entry_in, put_entry, cleared_to, back_body, crash_copied, idled, put_worker, put_recovery}
@@ -208,9 +206,9 @@ module _ (m : Block) (s : Small m) (h : Whole m) where
           put_small (inserted (count_in Cached m d) m d e) (inserted_small (count_in Cached m d) m d e s h f) (inserted_whole (count_in Cached m d) m d e h) (body Cached d 0) (count_in Cached m d + 1) (omega arith)
       go false q = s
 
-  pub removed_small : (d : ℕ) (f : Found) → Small (removed_at m d f)
+  pub removed_small : (d : ℕ) (f : Option ℕ) → Small (removed_at m d f)
   unfolding removed_entry
-  removed_small d Missing = s
-  removed_small d (Here i) = either_small (ltb i (count_in Cached m d)) _ m
+  removed_small d None = s
+  removed_small d (Some i) = either_small (ltb i (count_in Cached m d)) _ m
       (let c = s (body Cached d 0) tt in put_small (moved_down (count_in Cached m d - 1 - i) m d i) (moved_small (count_in Cached m d - 1 - i) m d i s h) (moved_whole (count_in Cached m d - 1 - i) m d i h) (body Cached d 0) (count_in Cached m d - 1) (omega arith))
       s

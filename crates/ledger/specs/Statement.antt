@@ -1,14 +1,12 @@
 -- Demand 3, stated of the machine (`apply_of`, `after_of`) for n words, k descriptors and w workers and a list of events from fresh memory, refused ones included.
 -- Event i is number i of the list, from 0. Moment i is when i events have happened: event i leads from moment i to moment i + 1.
-use Rattle.std.specs.Prelude.{◌≡◌, ◌≢◌, Bool, true, false, cond, not, ◌&&◌, List, [], ◌∷◌, ℕ, zero, suc, ◌≤◌, ◌<◌, take, length, get_or}
+use Rattle.std.specs.Prelude.{◌≡◌, ◌≢◌, Bool, true, false, cond, not, ◌&&◌, List, [], ◌∷◌, ℕ, zero, suc, ◌≤◌, ◌<◌, take, length, get_or, None, Option, Some}
 use Rattle.word.specs.declared.Outcome.{Outcome}
 use Rattle.word.specs.declared.Outcome.TheVariants.{Succeeded, Failed}
 use Rattle.steps.specs.declared.Entry.{Entry}
 use Rattle.steps.specs.declared.Worker.TheVariants.{Building}
 use Rattle.memory.specs.declared.Copy.{Copy}
 use Rattle.memory.specs.declared.Copy.TheVariants.{Cached, Persisted}
-use Rattle.memory.specs.declared.Found.{Found}
-use Rattle.memory.specs.declared.Found.TheVariants.{Here, Missing}
 use Rattle.memory.specs.Block.{Block}
 use Rattle.memory.specs.Content.{status_in, count_in, entry_in, worker_in}
 use Rattle.memory.specs.Fresh.{good_sizes, fresh_block}
@@ -28,9 +26,9 @@ unfoldable pub body_in : Copy → Block → ℕ → List Entry
 body_in c m d = firsts (count_in c m d) (entry_in c m d)
 
 -- the ledger L with all the desired values of d's persisted body
-abbrev pub desired_or : Block → ℕ → ℕ → Found → ℕ
-desired_or m d x (Here j) = (entry_in Persisted m d j).desired
-desired_or m d x Missing = x
+abbrev pub desired_or : Block → ℕ → ℕ → Option ℕ → ℕ
+desired_or m d x (Some j) = (entry_in Persisted m d j).desired
+desired_or m d x None = x
 
 unfoldable pub entered : Block → ℕ → (ℕ → ℕ) → ℕ → ℕ
 entered m d L a = desired_or m d (L a) (entry_for Persisted m d a)

@@ -1,4 +1,5 @@
 -- One event: refused, or acted upon.
+use Rattle.std.specs.Prelude.{Option, ℕ}
 use mathlib.Core.Path.{◌≡◌, refl, ◌∙◌}
 use mathlib.Core.List.{[], ◌∷◌}
 use Prim.Native.Nat.{ℕ, zero, suc}
@@ -11,7 +12,6 @@ use Rattle.steps.specs.declared.RecoveryPlace.{RecoveryPlace}
 use Rattle.codes.specs.declared.Row.{Row}
 use Rattle.codes.specs.Row.{worker_of}
 use Rattle.memory.specs.declared.Copy.TheVariants.{Cached}
-use Rattle.memory.specs.declared.Found.{Found}
 use Rattle.memory.specs.declared.Sizes.{Sizes}
 use Rattle.memory.specs.Block.{Block}
 use Rattle.memory.specs.Content.{back_word, back_status, row_in, worker_in, put_worker, recovery_in}
@@ -43,7 +43,7 @@ accepted m e r d f z h = rw (← f, z) h
 
 -- events of a worker, which is x
 module _ (m : Block) (w : ℕ) (x : Worker) (r : ℕ) (e : x ≡ worker_in m w) where
-  module _ (f : Found) (s : Sizes) (g : s ≡ sizes_in m) (h : f ≡ lowest_below m s.k) (t : r ≡ first_of (open_checks m w x f)) where
+  module _ (f : Option ℕ) (s : Sizes) (g : s ≡ sizes_in m) (h : f ≡ lowest_below m s.k) (t : r ≡ first_of (open_checks m w x f)) where
     open_table : r ≡ first_of (checks_of m (Ev.Open w))
     open_table = t ∙ rw (h, g, e)
 
@@ -63,7 +63,7 @@ module _ (m : Block) (w : ℕ) (x : Worker) (r : ℕ) (e : x ≡ worker_in m w) 
     pub add_done : (y : Block) (d : ℕ) → r ≡ 0 → d ≡ build_of x → y ≡ added m d i → left y Ok ≡ apply_of m (Ev.Add w i.address i.expected i.desired)
     add_done y d z b k = accepted m (Ev.Add w i.address i.expected i.desired) r (left y Ok) add_table z (rw (k, b, e))
 
-  module _ (a d : ℕ) (f : Found) (b : d ≡ build_of x) (g : f ≡ entry_for Cached m d a) (t : r ≡ first_of (remove_checks m w x a f)) where
+  module _ (a d : ℕ) (f : Option ℕ) (b : d ≡ build_of x) (g : f ≡ entry_for Cached m d a) (t : r ≡ first_of (remove_checks m w x a f)) where
     remove_table : r ≡ first_of (checks_of m (Ev.Remove w a))
     remove_table = t ∙ rw (g, b, e)
 

@@ -1,12 +1,11 @@
 -- The crash and recovery: one law for each answer.
+use Rattle.std.specs.Prelude.{Option, ℕ}
 use mathlib.Core.Path.{◌≡◌, ◌∙◌}
 use Prim.Native.Nat.{ℕ, suc, ◌+◌, ◌/◌, ◌<◌, ◌≤◌}
 use native.Mathlib.Omega.{arith}
 use borrow.Author.Tests.{lt-ltb, le-ltb}
-use Rattle.steps.specs.declared.More.{More}
 use Rattle.steps.specs.declared.RecoveryPlace.{RecoveryPlace}
 use Rattle.steps.specs.declared.RecoveryPlace.TheVariants.{Outside, At}
-use Rattle.steps.specs.declared.RecoveryPlan.{RecoveryPlan}
 use Rattle.steps.specs.declared.Seen.{Seen}
 use Rattle.steps.specs.Recovery.{recovery_plan}
 use Rattle.memory.specs.declared.Copy.TheVariants.{Persisted}
@@ -16,6 +15,7 @@ use Rattle.events.specs.declared.Answer.{Answer}
 use Rattle.events.specs.Left.{Left, left}
 use Rattle.machine.specs.Step.{seen_in, performed}
 use Rattle.machine.specs.Recover.{crashed, visit_after, place_after, recovery_answer, recovery_plan_at, recovery_step_at, recover_of}
+use Rattle.steps.specs.declared.Plan.{Plan}
 
 pub crash_law : (m a b c : Block) → a ≡ crash_copied m → b ≡ idled a 8 → c ≡ put_recovery b (At 0 0) → c ≡ crashed m
 unfolding crashed
@@ -34,10 +34,10 @@ module _ (d k : ℕ) where
   unfolding visit_after
   visit_past h = let l : k ≤ suc d = omega arith in rw (le-ltb (suc d) k l)
 
-pub place_by : (k d : ℕ) (n q : More) (r : RecoveryPlace) → n ≡ q → r ≡ place_after k d q → r ≡ place_after k d n
+pub place_by : (k d : ℕ) (n q : Option ℕ) (r : RecoveryPlace) → n ≡ q → r ≡ place_after k d q → r ≡ place_after k d n
 place_by k d n q r e h = rw e h
 
-pub recovery_law : (m x y : Block) (k d s : ℕ) (e : Seen) (q : RecoveryPlan) (p : RecoveryPlace) (r : Answer) → e ≡ seen_in Persisted m d (s / 2) → q ≡ recovery_plan d s e
+pub recovery_law : (m x y : Block) (k d s : ℕ) (e : Seen) (q : Plan (Option ℕ)) (p : RecoveryPlace) (r : Answer) → e ≡ seen_in Persisted m d (s / 2) → q ≡ recovery_plan d s e
     → x ≡ performed m d q.effect → p ≡ place_after k d q.next → y ≡ put_recovery x p → r ≡ recovery_answer p → left y r ≡ recovery_step_at m k d s
 unfolding recovery_step_at recovery_plan_at
 recovery_law m x y k d s e q p r f g h i j l = rw (← f, ← g, l, j, i, h)

@@ -19,7 +19,6 @@ use Rattle.steps.specs.declared.Next.{Next}
 use Rattle.steps.specs.declared.Next.TheVariants.{Go}
 use Rattle.steps.specs.declared.Plan.{Plan}
 use Rattle.steps.specs.declared.ReadNext.{ReadNext}
-use Rattle.steps.specs.declared.ReadPlan.{ReadPlan}
 use Rattle.steps.specs.Plan.{planned, read_plan, read_clear_plan}
 use Rattle.steps.specs.Operation.{plan_of, install, install_clear, persist_clear, decide, settle, settle_clear, swap, swap_clear, store_free}
 use Rattle.codes.specs.declared.Row.{Row}
@@ -82,7 +81,7 @@ unfolding seen_in
 address_law m d i e h = rw h
 
 -- the plan at each place: what it sees there is all that its rule looks at
-module _ (m : Block) (w : ℕ) (o : Own) (d : ℕ) (p : Place) (r : Plan) where
+module _ (m : Block) (w : ℕ) (o : Own) (d : ℕ) (p : Place) (r : Plan Next) where
   pub plan_plain : (q : Place) → p ≡ q → r ≡ plan_of q d (seen_in Cached m d (place_entry q)) (busy_at m w d q) (owner_of o d) → r ≡ plan_at m w o d p
   unfolding plan_at
   plan_plain q e h = rw e h
@@ -138,7 +137,7 @@ pub arrive_by : (m x : Block) (w : ℕ) (o : Own) (e : ℕ) (p : Place) (n q : N
     → x ≡ put_worker m w v → left x r ≡ arrived m w o e p n
 arrive_by m x w o e p n q v r f g h k = rw (f, k, g, h)
 
-pub work_law : (m x : Block) (w : ℕ) (o : Own) (e : ℕ) (p : Place) (q : Plan) (r : Left) → q ≡ plan_at m w o e p → x ≡ performed m e q.effect
+pub work_law : (m x : Block) (w : ℕ) (o : Own) (e : ℕ) (p : Place) (q : Plan Next) (r : Left) → q ≡ plan_at m w o e p → x ≡ performed m e q.effect
     → r ≡ arrived x w o e p q.next → r ≡ work_step m w o e p
 unfolding work_step
 work_law m x w o e p q r f g h = h ∙ rw (g, f)
@@ -149,11 +148,11 @@ read_after_by a n q r f h = rw f h
 pub read_answer_by : (n q : ReadNext) (r : Answer) → n ≡ q → r ≡ read_answer q → r ≡ read_answer n
 read_answer_by n q r f h = rw f h
 
-pub read-out : (m x y : Block) (w a : ℕ) (q : ReadPlan) (v : Worker) (r : Answer) → x ≡ performed m 0 q.effect → v ≡ read_after a q.next → y ≡ put_worker x w v
+pub read-out : (m x y : Block) (w a : ℕ) (q : Plan ReadNext) (v : Worker) (r : Answer) → x ≡ performed m 0 q.effect → v ≡ read_after a q.next → y ≡ put_worker x w v
     → r ≡ read_answer q.next → left y r ≡ read_out m w a q
 read-out m x y w a q v r g h k l = rw (l, k, h, g)
 
-module _ (m : Block) (w a : ℕ) (s : Sort) (q : ReadPlan) (r : Left) (e : s ≡ word_in Cached m a) where
+module _ (m : Block) (w a : ℕ) (s : Sort) (q : Plan ReadNext) (r : Left) (e : s ≡ word_in Cached m a) where
   pub read_law : q ≡ read_plan a s → r ≡ read_out m w a q → r ≡ read_step m w a
   unfolding read_step
   read_law f h = h ∙ rw (f, e)

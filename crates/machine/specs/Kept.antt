@@ -1,7 +1,7 @@
 -- What an event's rule does not name is as it was: for each event, the fields that it spares.
 use Rattle.std.specs.Prelude.{◌≡◌, Bool, cond, ltb}
 use Rattle.std.proofs.Math.Path.{refl}
-use Rattle.std.proofs.Common.{◌∙◌}
+use Rattle.std.proofs.Common.{◌∙◌, None, Option, Some, ℕ}
 use Rattle.std.proofs.Math.Bool.{true, false}
 use Prim.Native.Nat.{ℕ, zero, suc, ◌+◌, ◌-◌}
 use Rattle.steps.specs.declared.Entry.{Entry}
@@ -18,8 +18,6 @@ use Rattle.steps.specs.Plan.{read_plan, read_clear_plan}
 use Rattle.codes.specs.Row.{row_of}
 use Rattle.memory.specs.declared.Copy.{Copy}
 use Rattle.memory.specs.declared.Copy.TheVariants.{Cached, Persisted}
-use Rattle.memory.specs.declared.Found.{Found}
-use Rattle.memory.specs.declared.Found.TheVariants.{Here, Missing}
 use Rattle.memory.specs.Block.{Block, Field, get, put}
 use Rattle.memory.specs.Block.Field.{word, status, body, worker, recovery}
 use Rattle.memory.specs.Content.{word_in, entry_in, put_entry, count_in, crash_copied, clear_body, worker_in, put_worker, recovery_in}
@@ -60,9 +58,9 @@ SparedByStep m w (Working o e p) f = SparedBy e (plan_at m w o e p).effect f × 
 SparedByStep m w (Reading a) f = SparedBy 0 (read_plan a (word_in Cached m a)).effect f × NotWorker w f
 SparedByStep m w (ReadClear a v) f = SparedBy 0 (read_clear_plan a v (word_in Cached m a)).effect f × NotWorker w f
 
-abbrev pub SparedByOpen : ℕ → Found → Field → Type 0
-SparedByOpen w (Here d) f = NotBody Cached d f × NotWorker w f
-SparedByOpen w Missing f = Unit
+abbrev pub SparedByOpen : ℕ → Option ℕ → Field → Type 0
+SparedByOpen w (Some d) f = NotBody Cached d f × NotWorker w f
+SparedByOpen w None f = Unit
 
 abbrev pub SparedByRecovery : Block → RecoveryPlace → Field → Type 0
 SparedByRecovery m Outside f = Unit
@@ -130,10 +128,10 @@ module _ (f : Field) where
       moved_kept k (put_entry m d i (entry_in Cached m d (suc i))) d (suc i) n
       ∙ entry_other m d i (entry_in Cached m d (suc i)) f (λ j l o. n j)
 
-  removed_kept : (m : Block) (d : ℕ) (g : Found) → NotBody Cached d f → get (removed_at m d g) f ≡ get m f
+  removed_kept : (m : Block) (d : ℕ) (g : Option ℕ) → NotBody Cached d f → get (removed_at m d g) f ≡ get m f
   unfolding removed_entry
-  removed_kept m d Missing n = refl
-  removed_kept m d (Here i) n = go (ltb i (count_in Cached m d))
+  removed_kept m d None n = refl
+  removed_kept m d (Some i) n = go (ltb i (count_in Cached m d))
     where
       go : (t : Bool) → get (cond t (put (moved_down (count_in Cached m d - 1 - i) m d i) (body Cached d 0) (count_in Cached m d - 1)) m) f ≡ get m f
       go true = get_other _ (body Cached d 0) _ f (n 0) ∙ moved_kept (count_in Cached m d - 1 - i) m d i n
@@ -147,9 +145,9 @@ module _ (f : Field) where
   step_kept m w (Reading a) n = worker_kept _ w (read_after a (read_plan a (word_in Cached m a)).next) n.1 ∙ performed_kept m 0 (read_plan a (word_in Cached m a)).effect n.0
   step_kept m w (ReadClear a v) n = worker_kept _ w (read_after a (read_clear_plan a v (word_in Cached m a)).next) n.1 ∙ performed_kept m 0 (read_clear_plan a v (word_in Cached m a)).effect n.0
 
-  opened_kept : (m : Block) (w : ℕ) (g : Found) → SparedByOpen w g f → get (opened m w g).memory f ≡ get m f
-  opened_kept m w (Here d) n = worker_kept (clear_body m d) w (Building d) n.1 ∙ cleared_other m d 13 f n.0
-  opened_kept m w Missing n = refl
+  opened_kept : (m : Block) (w : ℕ) (g : Option ℕ) → SparedByOpen w g f → get (opened m w g).memory f ≡ get m f
+  opened_kept m w (Some d) n = worker_kept (clear_body m d) w (Building d) n.1 ∙ cleared_other m d 13 f n.0
+  opened_kept m w None n = refl
 
   recovered_kept : (m : Block) (k : ℕ) (p : RecoveryPlace) → SparedByRecovery m p f → get (recover_of m k p).memory f ≡ get m f
   unfolding recovery_step_at

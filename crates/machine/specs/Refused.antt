@@ -1,6 +1,6 @@
 -- A refusal changes nothing, and each number is given exactly when it is the first of its table that holds.
 use Rattle.std.specs.Prelude.{◌≡◌, refl, ◌↔◌, Bool, true, false, cond, not, ◌||◌, List, [], ◌∷◌, ℕ, zero, suc, eqb}
-use Rattle.std.proofs.Common.{sym, ap, subst, ◌∙◌, arith}
+use Rattle.std.proofs.Common.{sym, ap, subst, ◌∙◌, arith, None, Option, Some}
 use Rattle.steps.specs.declared.Worker.{Worker}
 use Rattle.steps.specs.declared.Worker.TheVariants.{Idle, Building, Working, Reading, ReadClear}
 use Rattle.steps.specs.declared.Next.{Next}
@@ -10,8 +10,6 @@ use Rattle.steps.specs.declared.ReadNext.TheVariants.{Meet, Clear, Value}
 use Rattle.steps.specs.declared.RecoveryPlace.{RecoveryPlace}
 use Rattle.steps.specs.declared.RecoveryPlace.TheVariants.{Outside, At}
 use Rattle.steps.specs.Plan.{read_plan, read_clear_plan}
-use Rattle.memory.specs.declared.Found.{Found}
-use Rattle.memory.specs.declared.Found.TheVariants.{Here, Missing}
 use Rattle.memory.specs.Block.{Block}
 use Rattle.memory.specs.declared.Copy.TheVariants.{Cached}
 use Rattle.memory.specs.Content.{word_in, worker_in, recovery_in}
@@ -55,9 +53,9 @@ step_unchanged m w (Working o f p) r e = let z : ⊥ = next_refuses (plan_at m w
 step_unchanged m w (Reading a) r e = let z : ⊥ = read_refuses (read_plan a (word_in Cached m a)).next r e in search
 step_unchanged m w (ReadClear a v) r e = let z : ⊥ = read_refuses (read_clear_plan a v (word_in Cached m a)).next r e in search
 
-open_unchanged : (m : Block) (w : ℕ) (f : Found) (r : ℕ) → (opened m w f).answer ≡ Refused r → (opened m w f).memory ≡ m
-open_unchanged m w (Here d) r e = let z : ⊥ = clash (cc) in search
-open_unchanged m w Missing r e = refl
+open_unchanged : (m : Block) (w : ℕ) (f : Option ℕ) (r : ℕ) → (opened m w f).answer ≡ Refused r → (opened m w f).memory ≡ m
+open_unchanged m w (Some d) r e = let z : ⊥ = clash (cc) in search
+open_unchanged m w None r e = refl
 
 recover_unchanged : (m : Block) (k : ℕ) (p : RecoveryPlace) (r : ℕ) → (recover_of m k p).answer ≡ Refused r → (recover_of m k p).memory ≡ m
 unfolding recovery_step_at
@@ -111,9 +109,9 @@ step_taken m w (Working o f p) r h e = next_refuses (plan_at m w o f p).next r e
 step_taken m w (Reading a) r h e = read_refuses (read_plan a (word_in Cached m a)).next r e
 step_taken m w (ReadClear a v) r h e = read_refuses (read_clear_plan a v (word_in Cached m a)).next r e
 
-open_taken : (m : Block) (w : ℕ) (f : Found) (r : ℕ) → is_missing f ≡ false → (opened m w f).answer ≡ Refused r → ⊥
-open_taken m w (Here d) r h e = clash (cc)
-open_taken m w Missing r h e = clash (cc)
+open_taken : (m : Block) (w : ℕ) (f : Option ℕ) (r : ℕ) → is_missing f ≡ false → (opened m w f).answer ≡ Refused r → ⊥
+open_taken m w (Some d) r h e = clash (cc)
+open_taken m w None r h e = clash (cc)
 
 recover_taken : (m : Block) (k : ℕ) (p : RecoveryPlace) (r : ℕ) → not (is_recovering p) ≡ false → (recover_of m k p).answer ≡ Refused r → ⊥
 unfolding recovery_step_at

@@ -15,7 +15,6 @@ use Rattle.steps.specs.declared.Next.TheVariants.{Go, Help, Over, Wait, Answer}
 use Rattle.steps.specs.declared.Plan.{Plan}
 use Rattle.steps.specs.declared.ReadNext.{ReadNext}
 use Rattle.steps.specs.declared.ReadNext.TheVariants.{Meet, Clear, Value}
-use Rattle.steps.specs.declared.ReadPlan.{ReadPlan}
 use Rattle.steps.specs.Plan.{read_plan, read_clear_plan}
 use Rattle.steps.specs.Operation.{plan_of}
 use Rattle.codes.specs.Place.{place_entry}
@@ -105,13 +104,13 @@ answer_of Wait = Waits
 answer_of (Answer r) = Answered r
 
 -- a step of operation e, at place p, of a worker that owns o
-unfoldable pub plan_at : Block → ℕ → Own → ℕ → Place → Plan
+unfoldable pub plan_at : Block → ℕ → Own → ℕ → Place → Plan Next
 plan_at m w o e p = plan_of p e (seen_in Cached m e (place_entry p)) (busy_at m w e p) (owner_of o e)
 
 abbrev pub arrived : Block → ℕ → Own → ℕ → Place → Next → Left
 arrived m w o e p n = left (put_worker m w (worker_after o e p n)) (answer_of n)
 
-abbrev pub carried_out : Block → ℕ → Own → ℕ → Place → Plan → Left
+abbrev pub carried_out : Block → ℕ → Own → ℕ → Place → Plan Next → Left
 carried_out m w o e p q = arrived (performed m e q.effect) w o e p q.next
 
 unfoldable pub work_step : Block → ℕ → Own → ℕ → Place → Left
@@ -128,7 +127,7 @@ read_answer (Meet e) = Helping e
 read_answer (Clear v) = Moved
 read_answer (Value v) = Shows v
 
-abbrev pub read_out : Block → ℕ → ℕ → ReadPlan → Left
+abbrev pub read_out : Block → ℕ → ℕ → Plan ReadNext → Left
 read_out m w a q = left (put_worker (performed m 0 q.effect) w (read_after a q.next)) (read_answer q.next)
 
 unfoldable pub read_step : Block → ℕ → ℕ → Left

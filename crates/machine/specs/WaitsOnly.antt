@@ -1,6 +1,6 @@
 -- Document 01, 7: a step of an operation is answered W at the owner's store of Free alone, while another worker's current job is that descriptor; at no other place, and for no other reason.
 use Rattle.std.specs.Prelude.{◌≡◌, refl, Bool, true, false, cond, ℕ, eqb}
-use Rattle.std.proofs.Common.{sym, ap, ◌∙◌, arith}
+use Rattle.std.proofs.Common.{sym, ap, ◌∙◌, arith, None, Option, Some}
 use Rattle.word.specs.declared.Sort.{Sort}
 use Rattle.word.specs.declared.Sort.TheVariants.{Plain, Pointer, Neither}
 use Rattle.word.specs.declared.Outcome.{Outcome}
@@ -10,8 +10,6 @@ use Rattle.steps.specs.declared.Own.{Own}
 use Rattle.steps.specs.declared.Place.{Place}
 use Rattle.steps.specs.declared.Place.TheVariants.{BackBody, StoreUndecided, BackUndecided, Install, InstallClear, Persist, PersistClear, Decide, Settle, SettleClear, Swap, SwapBack, SwapClear, StoreFree, BackFree}
 use Rattle.steps.specs.declared.Seen.{Seen}
-use Rattle.steps.specs.declared.More.{More}
-use Rattle.steps.specs.declared.More.TheVariants.{Then, Done}
 use Rattle.steps.specs.declared.Next.{Next}
 use Rattle.steps.specs.declared.Next.TheVariants.{Go, Help, Over, Wait, Answer}
 use Rattle.steps.specs.declared.Plan.{Plan}
@@ -31,20 +29,20 @@ is_wait Over = false
 is_wait Wait = true
 is_wait (Answer r) = false
 
-installed_goes : (x : More) → is_wait (installed x) ≡ false
-installed_goes (Then j) = refl
-installed_goes Done = refl
+installed_goes : (x : Option ℕ) → is_wait (installed x) ≡ false
+installed_goes (Some j) = refl
+installed_goes None = refl
 
-persisted_goes : (x : More) → is_wait (persisted x) ≡ false
-persisted_goes (Then j) = refl
-persisted_goes Done = refl
+persisted_goes : (x : Option ℕ) → is_wait (persisted x) ≡ false
+persisted_goes (Some j) = refl
+persisted_goes None = refl
 
-swapped_goes : (owner : Bool) (x : More) → is_wait (swapped owner x) ≡ false
-swapped_goes owner (Then j) = refl
-swapped_goes true Done = refl
-swapped_goes false Done = refl
+swapped_goes : (owner : Bool) (x : Option ℕ) → is_wait (swapped owner x) ≡ false
+swapped_goes owner (Some j) = refl
+swapped_goes true None = refl
+swapped_goes false None = refl
 
-either_goes : (t : Bool) (p q : Plan) → is_wait p.next ≡ false → is_wait q.next ≡ false → is_wait (cond t p q).next ≡ false
+either_goes : (t : Bool) (p q : Plan Next) → is_wait p.next ≡ false → is_wait q.next ≡ false → is_wait (cond t p q).next ≡ false
 either_goes true p q h k = h
 either_goes false p q h k = k
 

@@ -1,5 +1,5 @@
 -- Every event keeps the block whole, so that what was stored can be read after any events.
-use Rattle.std.specs.Prelude.{Bool, true, false, cond, List, [], ◌∷◌, ℕ, zero, suc, ◌-◌, ltb}
+use Rattle.std.specs.Prelude.{Bool, true, false, cond, List, [], ◌∷◌, ℕ, zero, suc, ◌-◌, ltb, None, Option, Some}
 use Rattle.steps.specs.declared.Entry.{Entry}
 use Rattle.steps.specs.declared.Worker.{Worker}
 use Rattle.steps.specs.declared.Worker.TheVariants.{Idle, Building, Working, Reading, ReadClear}
@@ -11,8 +11,6 @@ use Rattle.steps.specs.declared.RecoveryPlace.TheVariants.{Outside, At}
 use Rattle.steps.specs.Plan.{read_plan, read_clear_plan}
 use Rattle.codes.specs.Row.{row_of}
 use Rattle.memory.specs.declared.Copy.TheVariants.{Cached}
-use Rattle.memory.specs.declared.Found.{Found}
-use Rattle.memory.specs.declared.Found.TheVariants.{Here, Missing}
 use Rattle.memory.specs.Block.{Block}
 use Rattle.memory.specs.Block.Field.{body}
 use Rattle.memory.specs.Content.{word_in, entry_in, put_entry, count_in, crash_copied, clear_body, worker_in, recovery_in}
@@ -60,14 +58,14 @@ added_whole : (m : Block) (d : ℕ) (e : Entry) → Whole m → Whole (added m d
 unfolding added
 added_whole m d e h = either_whole (ltb (count_in Cached m d) 4) _ m (whole_put _ (body Cached d 0) _ (inserted_whole (count_in Cached m d) m d e h)) h
 
-removed_whole : (m : Block) (d : ℕ) (f : Found) → Whole m → Whole (removed_at m d f)
+removed_whole : (m : Block) (d : ℕ) (f : Option ℕ) → Whole m → Whole (removed_at m d f)
 unfolding removed_entry
-removed_whole m d Missing h = h
-removed_whole m d (Here i) h = either_whole (ltb i (count_in Cached m d)) _ m (whole_put _ (body Cached d 0) _ (moved_whole (count_in Cached m d - 1 - i) m d i h)) h
+removed_whole m d None h = h
+removed_whole m d (Some i) h = either_whole (ltb i (count_in Cached m d)) _ m (whole_put _ (body Cached d 0) _ (moved_whole (count_in Cached m d - 1 - i) m d i h)) h
 
-opened_whole : (m : Block) (w : ℕ) (f : Found) → Whole m → Whole (opened m w f).memory
-opened_whole m w (Here d) h = row_whole (clear_body m d) w (row_of (Building d)) (cleared_whole m d 13 h)
-opened_whole m w Missing h = h
+opened_whole : (m : Block) (w : ℕ) (f : Option ℕ) → Whole m → Whole (opened m w f).memory
+opened_whole m w (Some d) h = row_whole (clear_body m d) w (row_of (Building d)) (cleared_whole m d 13 h)
+opened_whole m w None h = h
 
 step_whole : (m : Block) (w : ℕ) (x : Worker) → Whole m → Whole (step_of m w x).memory
 unfolding work_step read_step read_clear_step

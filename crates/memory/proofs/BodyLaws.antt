@@ -1,4 +1,5 @@
 -- Bodies: one law for each answer.
+use Rattle.std.specs.Prelude.{None, Some}
 use mathlib.Core.Path.{◌≡◌, refl, ◌∙◌}
 use mathlib.Core.Bool.{Bool, true, false, cond}
 use Prim.Native.Nat.{ℕ, suc, ◌+◌, ◌*◌, ◌<◌, ◌≤◌}
@@ -8,7 +9,6 @@ use borrow.Author.Tests.{lt-ltb, le-ltb}
 use Rattle.memory.specs.declared.Copy.{Copy}
 use Rattle.memory.specs.declared.Copy.TheVariants.{Cached, Persisted}
 use Rattle.steps.specs.declared.Entry.{Entry}
-use Rattle.memory.specs.declared.Found.TheVariants.{Here, Missing}
 use Rattle.memory.specs.Block.{Block, at, store, slot, get, put}
 use Rattle.memory.specs.Block.Field.{body}
 use Rattle.memory.specs.Content.{count_in, entry_in, put_entry, cleared_to, copied}
@@ -78,25 +78,25 @@ module _ (c : Copy) (m : Block) (d a : ℕ) where
   has_past i n g l = simp (← g, le-ltb _ _ l)
 
   module _ (p : Bool) (e : p ≡ has_at c m d a 0) where
-    pub first_0 : p ≡ true → Here 0 ≡ entry_for c m d a
+    pub first_0 : p ≡ true → Some 0 ≡ entry_for c m d a
     unfolding entry_for
     first_0 f = simp (← e, f)
 
     module _ (q : Bool) (g : q ≡ has_at c m d a 1) (no : p ≡ false) where
-      pub first_1 : q ≡ true → Here 1 ≡ entry_for c m d a
+      pub first_1 : q ≡ true → Some 1 ≡ entry_for c m d a
       unfolding entry_for
       first_1 f = simp (← e, no, ← g, f)
 
       module _ (r : Bool) (h : r ≡ has_at c m d a 2) (nor : q ≡ false) where
-        pub first_2 : r ≡ true → Here 2 ≡ entry_for c m d a
+        pub first_2 : r ≡ true → Some 2 ≡ entry_for c m d a
         unfolding entry_for
         first_2 f = simp (← e, no, ← g, nor, ← h, f)
 
         module _ (s : Bool) (k : s ≡ has_at c m d a 3) (either : r ≡ false) where
-          pub first_3 : s ≡ true → Here 3 ≡ entry_for c m d a
+          pub first_3 : s ≡ true → Some 3 ≡ entry_for c m d a
           unfolding entry_for
           first_3 f = simp (← e, no, ← g, nor, ← h, either, ← k, f)
 
-          pub first_none : s ≡ false → Missing ≡ entry_for c m d a
+          pub first_none : s ≡ false → None ≡ entry_for c m d a
           unfolding entry_for
           first_none f = simp (← e, no, ← g, nor, ← h, either, ← k, f)

@@ -1,6 +1,6 @@
 -- For every public function: two results, or two final contents, that keep its promise coincide.
 use Rattle.std.specs.Prelude.{◌≡◌, Bool, ℕ}
-use Rattle.std.proofs.Common.{ap}
+use Rattle.std.proofs.Common.{ap, Option}
 use Rattle.word.specs.declared.Sort.{Sort}
 use Rattle.word.specs.declared.Status.{Status}
 use Rattle.word.specs.Coincide.{coincide}
@@ -12,7 +12,6 @@ use Rattle.steps.specs.declared.RecoveryPlace.{RecoveryPlace}
 use Rattle.codes.specs.declared.Row.{Row}
 use Rattle.memory.specs.declared.Copy.{Copy}
 use Rattle.steps.specs.declared.Entry.{Entry}
-use Rattle.memory.specs.declared.Found.{Found}
 use Rattle.memory.specs.declared.Sizes.{Sizes}
 use Rattle.memory.specs.Block.{Block}
 use Rattle.memory.specs.Content.{word_in, put_word, back_word, status_in, put_status, back_status, count_in, put_count, entry_in, put_entry, clear_body, back_body, crash_copied, row_in, worker_in, put_worker, idled, recovery_in, put_recovery}
@@ -32,7 +31,7 @@ read_count m c d r s = coincide
 pub read_entry : (m : Block) (c : Copy) (d i : ℕ) (r s : Entry) → r ≡ entry_in c m d i → s ≡ entry_in c m d i → r ≡ s
 read_entry m c d i r s = coincide
 
-pub find_entry : (m : Block) (c : Copy) (d a : ℕ) (r s : Found) → r ≡ entry_for c m d a → s ≡ entry_for c m d a → r ≡ s
+pub find_entry : (m : Block) (c : Copy) (d a : ℕ) (r s : Option ℕ) → r ≡ entry_for c m d a → s ≡ entry_for c m d a → r ≡ s
 find_entry m c d a r s = coincide
 
 pub read_row : (m : Block) (w : ℕ) (r s : Row) → r ≡ row_in m w → s ≡ row_in m w → r ≡ s

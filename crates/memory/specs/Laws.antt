@@ -1,7 +1,7 @@
 -- Words and statuses: reading what was stored or written back. Every thing: it is as it was where its fields are.
 use Rattle.std.specs.Prelude.{◌≡◌, ℕ, ◌+◌, ◌*◌, ◌<◌, ◌≤◌}
 use Rattle.std.proofs.Math.Path.{refl}
-use Rattle.std.proofs.Common.{ap, ◌∙◌, arith}
+use Rattle.std.proofs.Common.{ap, ◌∙◌, arith, None, Option, Some}
 use Rattle.word.specs.declared.Sort.{Sort}
 use Rattle.word.specs.declared.Sort.TheVariants.{Plain, Pointer, Neither}
 use Rattle.word.specs.declared.Status.{Status}
@@ -11,8 +11,6 @@ use Rattle.word.specs.Laws.{Formed, word_made}
 use Rattle.word.specs.StatusLaws.{StatusFormed, status_made}
 use Rattle.memory.specs.declared.Copy.{Copy}
 use Rattle.memory.specs.declared.Copy.TheVariants.{Cached, Persisted}
-use Rattle.memory.specs.declared.Found.{Found}
-use Rattle.memory.specs.declared.Found.TheVariants.{Here, Missing}
 use Rattle.memory.specs.Block.{Block, get}
 use Rattle.memory.specs.Block.Field.{word, status, body, worker, size, recovery}
 use Rattle.memory.specs.Fresh.{sizes_in}
@@ -69,9 +67,9 @@ module _ (m x : Block) (words : (a : ℕ) → get x (word Persisted a) ≡ get m
   same_pointer : (d a : ℕ) → pointer_value x d a ≡ pointer_value m d a
   same_pointer d a = rw (same_found m x Persisted d a (bodies d)) (go (entry_for Persisted m d a))
     where
-      go : (o : Found) → found_value x d o ≡ found_value m d o
-      go (Here i) = rw (statuses d, same_entry m x Persisted d i (λ j h l. bodies d j))
-      go Missing = refl
+      go : (o : Option ℕ) → found_value x d o ≡ found_value m d o
+      go (Some i) = rw (statuses d, same_entry m x Persisted d i (λ j h l. bodies d j))
+      go None = refl
 
   pub same_value : (a : ℕ) → value_of x a ≡ value_of m a
   unfolding value_of

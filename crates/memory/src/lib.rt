@@ -24,14 +24,14 @@ pub use workers::{
 pub type Memory = [u64; 646];
 
 // Each word, status and body has a cached and a persisted copy.
-#[derive(Clone, Copy)]
+#[derive(Clone, Copy, PartialEq, Eq, Debug)]
 pub enum Copy {
     Cached,
     Persisted,
 }
 
 // n words (1 to 64), k descriptors (1 to 16), w workers (1 to 8).
-#[derive(Clone, Copy)]
+#[derive(Clone, Copy, PartialEq, Eq, Debug)]
 pub struct Sizes {
     pub n: u64,
     pub k: u64,
@@ -39,7 +39,7 @@ pub struct Sizes {
 }
 
 // What a search found: the number of an entry, or of a descriptor.
-#[derive(Clone, Copy)]
+#[derive(Clone, Copy, PartialEq, Eq, Debug)]
 pub enum Found {
     Here(u64),
     Missing,

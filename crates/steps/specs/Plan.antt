@@ -9,12 +9,11 @@ use Rattle.word.specs.declared.Status.TheVariants.{Free, Undecided, Decided, Bad
 use Rattle.steps.specs.declared.Entry.{Entry}
 use Rattle.steps.specs.declared.Effect.{Effect}
 use Rattle.steps.specs.declared.Effect.TheVariants.{Nothing, StoreWord, BackWord}
-use Rattle.steps.specs.declared.Next.{Next}
 use Rattle.steps.specs.declared.Plan.{Plan}
 use Rattle.steps.specs.declared.ReadNext.TheVariants.{Meet, Clear, Value}
-use Rattle.steps.specs.declared.ReadPlan.{ReadPlan}
+use Rattle.steps.specs.declared.ReadNext.{ReadNext}
 
-abbrev pub planned : Effect → Next → Plan
+abbrev pub planned : {N : Type 0} → Effect → N → Plan N
 planned e n = record { effect = e; next = n }
 
 -- a pointer to d, dirty or clean
@@ -61,15 +60,15 @@ store_if t a s = cond t (StoreWord a s) Nothing
 
 -- Read: a pointer to e is helped (A3 12-14); a clean word is answered (A3 3, 15); a dirty plain word is written back (A3 8-9). (A number that is no word, which is never met, is
 -- answered 0, its value.)
-abbrev pub read_by : ℕ → ℕ → Bool → ReadPlan
+abbrev pub read_by : ℕ → ℕ → Bool → Plan ReadNext
 read_by a v true = record { effect = BackWord a; next = Clear v }
 read_by a v false = record { effect = Nothing; next = Value v }
 
-abbrev pub read_plan : ℕ → Sort → ReadPlan
+abbrev pub read_plan : ℕ → Sort → Plan ReadNext
 read_plan a (Plain v dirty) = read_by a v dirty
 read_plan a (Pointer e dirty) = record { effect = Nothing; next = Meet e }
 read_plan a (Neither w) = record { effect = Nothing; next = Value 0 }
 
 -- the next step clears the bit if the word is unchanged, and answers the value first seen (A3 9-10, 15)
-abbrev pub read_clear_plan : ℕ → ℕ → Sort → ReadPlan
+abbrev pub read_clear_plan : ℕ → ℕ → Sort → Plan ReadNext
 read_clear_plan a v s = record { effect = store_if (is_dirty_plain s v) a (Plain v false); next = Value v }

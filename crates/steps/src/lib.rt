@@ -16,7 +16,7 @@ use word::{Outcome, Sort, Status};
 
 // A place in the steps of an operation: which step is next. Its first number is the entry, counted from 0. What the step does, and
 // its tests, are in specs/Operation.antt.
-#[derive(Clone, Copy)]
+#[derive(Clone, Copy, PartialEq, Eq, Debug)]
 pub enum Place {
     // 1. Owner only: write back the body; store Undecided; write back the status
     BackBody,
@@ -43,14 +43,14 @@ pub enum Place {
 }
 
 // What a worker that runs something owns: an operation, by its descriptor, or a read, by its address.
-#[derive(Clone, Copy)]
+#[derive(Clone, Copy, PartialEq, Eq, Debug)]
 pub enum Own {
     Operation(u64),
     Read(u64),
 }
 
 // A worker owns nothing (Idle), a descriptor being built, a running operation, or a read. Its current job is its own, or one it helps.
-#[derive(Clone, Copy)]
+#[derive(Clone, Copy, PartialEq, Eq, Debug)]
 pub enum Worker {
     Idle,
     // a descriptor being built
@@ -64,14 +64,14 @@ pub enum Worker {
 }
 
 // Recovery's place: none outside recovery, or the descriptor and the steps done there.
-#[derive(Clone, Copy)]
+#[derive(Clone, Copy, PartialEq, Eq, Debug)]
 pub enum RecoveryPlace {
     Outside,
     At(u64, u64),
 }
 
 // An entry of a body.
-#[derive(Clone, Copy)]
+#[derive(Clone, Copy, PartialEq, Eq, Debug)]
 pub struct Entry {
     pub address: u64,
     pub expected: u64,
@@ -80,7 +80,7 @@ pub struct Entry {
 
 // What a step looks at: the status of its descriptor, the count, the entry that it is at, the word at that entry's address. A step of an operation sees the cached
 // copy, a step of recovery the persisted status and body, and the cached word.
-#[derive(Clone, Copy)]
+#[derive(Clone, Copy, PartialEq, Eq, Debug)]
 pub struct Seen {
     pub status: Status,
     pub count: u64,
@@ -89,7 +89,7 @@ pub struct Seen {
 }
 
 // What a step does to memory: nothing, a store to the word at an address or to the descriptor's status, a write-back of one of these or of the body.
-#[derive(Clone, Copy)]
+#[derive(Clone, Copy, PartialEq, Eq, Debug)]
 pub enum Effect {
     Nothing,
     StoreWord(u64, Sort),
@@ -100,7 +100,7 @@ pub enum Effect {
 }
 
 // What comes after a step of an operation.
-#[derive(Clone, Copy)]
+#[derive(Clone, Copy, PartialEq, Eq, Debug)]
 pub enum Next {
     // the same job goes on at this place
     Go(Place),
@@ -114,21 +114,16 @@ pub enum Next {
     Answer(Outcome),
 }
 
-// What comes after entry i of a body, or after so many steps of recovery: the next number, or the end.
-#[derive(Clone, Copy)]
-pub enum More {
-    Then(u64),
-    Done,
-}
-
-#[derive(Clone, Copy)]
-pub struct Plan {
+// A step of an operation, with what comes next (Next); of a read (ReadNext); or of recovery: the steps then done at its descriptor,
+// None after its last.
+#[derive(Clone, Copy, PartialEq, Eq, Debug)]
+pub struct Plan<N> {
     pub effect: Effect,
-    pub next: Next,
+    pub next: N,
 }
 
 // What comes after a step of a read.
-#[derive(Clone, Copy)]
+#[derive(Clone, Copy, PartialEq, Eq, Debug)]
 pub enum ReadNext {
     // the current job becomes this operation, at its install 0
     Meet(u64),
@@ -136,17 +131,4 @@ pub enum ReadNext {
     Clear(u64),
     // this value is the answer
     Value(u64),
-}
-
-#[derive(Clone, Copy)]
-pub struct ReadPlan {
-    pub effect: Effect,
-    pub next: ReadNext,
-}
-
-// A step of recovery, and the steps then done at its descriptor; Done after its last.
-#[derive(Clone, Copy)]
-pub struct RecoveryPlan {
-    pub effect: Effect,
-    pub next: More,
 }

@@ -12,7 +12,7 @@ const POINTER: u64 = 1 << 62;
 const RESERVED: u64 = 1 << 61;
 
 // A word: a plain value or a pointer to a descriptor, each with its dirty bit; or a number that is neither, whole.
-#[derive(Clone, Copy)]
+#[derive(Clone, Copy, PartialEq, Eq, Debug)]
 pub enum Sort {
     Plain(u64, bool),
     Pointer(u64, bool),
@@ -20,14 +20,14 @@ pub enum Sort {
 }
 
 // What an operation is decided to be.
-#[derive(Clone, Copy)]
+#[derive(Clone, Copy, PartialEq, Eq, Debug)]
 pub enum Outcome {
     Succeeded,
     Failed,
 }
 
 // A status: the dirty bit stands on Succeeded and Failed only; Bad is a number that is no status, whole.
-#[derive(Clone, Copy)]
+#[derive(Clone, Copy, PartialEq, Eq, Debug)]
 pub enum Status {
     Free,
     Undecided,
