@@ -9,7 +9,7 @@ use steps::{Own, Place, RecoveryPlace, Worker};
 use word::Outcome;
 
 // A worker's row: what it is, what it owns, its current job, its place there, the entry, what it noted.
-#[derive(Clone, Copy, PartialEq, Eq, Debug)]
+#[derive(Clone, Copy, PartialEq, Eq, Default, Debug)]
 pub struct Row {
     pub tag: u64,
     pub own: u64,
@@ -20,7 +20,7 @@ pub struct Row {
 }
 
 // Recovery's place: whether there is one, the descriptor, the steps done.
-#[derive(Clone, Copy, PartialEq, Eq, Debug)]
+#[derive(Clone, Copy, PartialEq, Eq, Default, Debug)]
 pub struct RecoveryRow {
     pub on: u64,
     pub descriptor: u64,
@@ -88,43 +88,24 @@ fn place_entry(p: Place) -> u64
     ensures { result ≡ place_entry p }
 {
     match p {
-        Place::BackBody => 0,
-        Place::StoreUndecided => 0,
-        Place::BackUndecided => 0,
-        Place::Install(i) => i,
-        Place::InstallClear(i, _) => i,
-        Place::Persist(i) => i,
-        Place::PersistClear(i) => i,
-        Place::Decide(_) => 0,
-        Place::Settle => 0,
-        Place::SettleClear => 0,
-        Place::Swap(i) => i,
-        Place::SwapBack(i) => i,
-        Place::SwapClear(i) => i,
-        Place::StoreFree => 0,
-        Place::BackFree(_) => 0,
+        Place::Install(i)
+        | Place::InstallClear(i, _)
+        | Place::Persist(i)
+        | Place::PersistClear(i)
+        | Place::Swap(i)
+        | Place::SwapBack(i)
+        | Place::SwapClear(i) => i,
+        _ => 0,
     }
 }
 
+// The value that it has noted; 0 where it has none.
 fn place_noted(p: Place) -> u64
     ensures { result ≡ place_noted p }
 {
     match p {
-        Place::BackBody => 0,
-        Place::StoreUndecided => 0,
-        Place::BackUndecided => 0,
-        Place::Install(_) => 0,
         Place::InstallClear(_, v) => v,
-        Place::Persist(_) => 0,
-        Place::PersistClear(_) => 0,
-        Place::Decide(_) => 0,
-        Place::Settle => 0,
-        Place::SettleClear => 0,
-        Place::Swap(_) => 0,
-        Place::SwapBack(_) => 0,
-        Place::SwapClear(_) => 0,
-        Place::StoreFree => 0,
-        Place::BackFree(_) => 0,
+        _ => 0,
     }
 }
 
@@ -136,13 +117,11 @@ pub fn place_in(r: Row) -> Place
 }
 
 // The worker runs an operation, its own or another's.
+#[tactic(auto, unfolding(crate::specs::Row::worker_of))]
 pub fn is_working(r: Row) -> bool
     ensures { result ≡ is_working (worker_of r) }
 {
-    if r.tag < 2 {
-        return false;
-    }
-    r.tag <= 3
+    matches!(r.tag, 2 | 3)
 }
 
 // What it owns then.
@@ -155,12 +134,12 @@ pub fn own_in(r: Row) -> Own
     Own::Operation(r.own)
 }
 
+#[tactic(auto, unfolding(crate::specs::Row::worker_of))]
 pub fn worker_of(r: Row) -> Worker
     ensures { result ≡ worker_of r }
 {
     let p = place_in(r);
-    let k = r.tag;
-    match k {
+    match r.tag {
         1 => Worker::Building(r.own),
         2 => Worker::Working(Own::Operation(r.own), r.job, p),
         3 => Worker::Working(Own::Read(r.own), r.job, p),
@@ -176,10 +155,8 @@ fn row_bare(tag: u64, own: u64, noted: u64) -> Row
     Row {
         tag,
         own,
-        job: 0,
-        place: 0,
-        entry: 0,
         noted,
+        ..Row::default()
     }
 }
 
@@ -218,6 +195,7 @@ pub fn row_of(x: Worker) -> Row
     }
 }
 
+#[tactic(auto, unfolding(crate::specs::Row::recovery_of))]
 pub fn recovery_of(s: RecoveryRow) -> RecoveryPlace
     ensures { result ≡ recovery_of s }
 {
@@ -231,11 +209,7 @@ pub fn recovery_row(p: RecoveryPlace) -> RecoveryRow
     ensures { result ≡ recovery_row p }
 {
     match p {
-        RecoveryPlace::Outside => RecoveryRow {
-            on: 0,
-            descriptor: 0,
-            done: 0,
-        },
+        RecoveryPlace::Outside => RecoveryRow::default(),
         RecoveryPlace::At(d, s) => RecoveryRow {
             on: 1,
             descriptor: d,
