@@ -5,6 +5,7 @@ ghost use Rattle.memory.specs.Fresh.{sizes_in, within, good_sizes, zeros, fresh_
 use crate::block::{load, save};
 use crate::{Memory, Sizes};
 
+#[tactic(auto, unfolding(crate::specs::Block::slot))]
 pub fn read_sizes(m: &Memory) -> Sizes
     ensures { result ≡ sizes_in m.now }
 {
@@ -15,39 +16,24 @@ pub fn read_sizes(m: &Memory) -> Sizes
     }
 }
 
-fn in_range(x: u64, most: u64) -> bool
-    ensures { result ≡ within x most }
-{
-    if 0 < x { x <= most } else { false }
-}
-
 fn good_sizes(n: u64, k: u64, w: u64) -> bool
     ensures { result ≡ good_sizes n k w }
 {
-    if in_range(n, 64) {
-        if in_range(k, 16) {
-            return in_range(w, 8);
-        }
-    }
-    false
+    (1..=64).contains(&n) && (1..=16).contains(&k) && (1..=8).contains(&w)
 }
 
-fn zero_all(m: &mut Memory)
-    ensures { m.new ≡ zeros }
-{
-    *m = [0; 646];
-}
-
+#[tactic(auto, unfolding(crate::specs::Block::slot))]
 fn start(m: &mut Memory, n: u64, k: u64, w: u64)
     ensures { m.new ≡ fresh_block n k w }
 {
-    zero_all(m);
+    *m = [0; 646];
     save(m, 640, n);
     save(m, 641, k);
     save(m, 642, w);
 }
 
 // A fresh memory of these sizes; where one is out of its range, nothing changes and the answer is false.
+#[tactic(auto, unfolding(crate::specs::Fresh::fresh_of))]
 pub fn fresh(m: &mut Memory, n: u64, k: u64, w: u64) -> bool
     ensures { begun m.new result ≡ fresh_of m.old n k w }
 {

@@ -5,16 +5,18 @@ ghost use Rattle.memory.specs.Block.Field.{word, status, body};
 
 use crate::{Copy, Memory};
 
+#[tactic(auto, unfolding(crate::specs::Block::at))]
 pub(crate) fn load(m: &Memory, i: usize) -> u64
     ensures { result ≡ at m.now i }
 {
-    if i < 646 { m[i] } else { 0 }
+    m.get(i).copied().unwrap_or(0)
 }
 
+#[tactic(auto, unfolding(crate::specs::Block::store))]
 pub(crate) fn save(m: &mut Memory, i: usize, v: u64)
     ensures { m.new ≡ store m.old i v }
 {
-    if i < 646 {
+    if i < m.len() {
         m[i] = v;
     }
 }
@@ -28,6 +30,7 @@ pub(crate) fn base(c: Copy) -> usize
     }
 }
 
+#[tactic(auto, unfolding(crate::specs::Block::slot))]
 pub(crate) fn word_slot(c: Copy, a: u64) -> usize
     ensures { result ≡ slot (word c a) }
 {
@@ -37,6 +40,7 @@ pub(crate) fn word_slot(c: Copy, a: u64) -> usize
     646
 }
 
+#[tactic(auto, unfolding(crate::specs::Block::slot))]
 pub(crate) fn status_slot(c: Copy, d: u64) -> usize
     ensures { result ≡ slot (status c d) }
 {
@@ -46,13 +50,12 @@ pub(crate) fn status_slot(c: Copy, d: u64) -> usize
     646
 }
 
+#[tactic(auto, unfolding(crate::specs::Block::slot))]
 pub(crate) fn body_slot(c: Copy, d: u64, j: u64) -> usize
     ensures { (result ≡ slot (body c d j)) × (result ≤ 646) }
 {
-    if d < 16 {
-        if j < 13 {
-            return base(c) + 80 + 13 * d as usize + j as usize;
-        }
+    if d < 16 && j < 13 {
+        return base(c) + 80 + 13 * d as usize + j as usize;
     }
     646
 }

@@ -6,7 +6,7 @@ ghost use Rattle.memory.specs.Content.{count_in, put_count, entry_in, put_entry,
 ghost use Rattle.memory.specs.Value.{has_at, entry_for};
 
 use crate::block::{body_slot, load, save};
-use crate::{Copy, Found, Memory};
+use crate::{Copy, Memory};
 use steps::Entry;
 
 // Number j of a body: 0 the count, then three numbers an entry.
@@ -36,6 +36,7 @@ pub fn put_count(m: &mut Memory, d: u64, n: u64)
     put_part(m, d, 0, n);
 }
 
+#[tactic(auto, unfolding(crate::specs::Content::entry_in, crate::specs::Block::slot, crate::specs::Block::at))]
 pub fn read_entry(m: &Memory, c: Copy, d: u64, i: u64) -> Entry
     ensures { result ≡ entry_in c m.now d i }
 {
@@ -47,13 +48,10 @@ pub fn read_entry(m: &Memory, c: Copy, d: u64, i: u64) -> Entry
             desired: part(m, c, d, 3 + j),
         };
     }
-    Entry {
-        address: 0,
-        expected: 0,
-        desired: 0,
-    }
+    Entry::default()
 }
 
+#[tactic(auto, unfolding(crate::specs::Block::slot, crate::specs::Block::store))]
 pub fn put_entry(m: &mut Memory, d: u64, i: u64, e: Entry)
     ensures { m.new ≡ put_entry m.old d i e }
 {
@@ -66,25 +64,23 @@ pub fn put_entry(m: &mut Memory, d: u64, i: u64, e: Entry)
 }
 
 // The cached body becomes zeros.
+#[tactic(auto, unfolding(crate::specs::Content::cleared_to))]
 pub fn clear_body(m: &mut Memory, d: u64)
     ensures { m.new ≡ clear_body m.old d }
 {
-    let mut j = 0;
-    while j < 13 {
+    for j in 0..13 {
         put_part(m, d, j, 0);
-        j = j + 1;
     }
 }
 
+#[tactic(auto, unfolding(crate::specs::Content::copied))]
 fn copy_numbers(m: &mut Memory, from: usize, to: usize, n: usize)
     requires { (from ≤ 646) × ((to ≤ 646) × (n ≤ 288)) }
     ensures { m.new ≡ copied m.old from to n }
 {
-    let mut i = 0;
-    while i < n {
+    for i in 0..n {
         let x = load(m, from + i);
         save(m, to + i, x);
-        i = i + 1;
     }
 }
 
@@ -107,27 +103,16 @@ pub fn crash_copy(m: &mut Memory)
 fn has_at(m: &Memory, c: Copy, d: u64, a: u64, i: u64) -> bool
     ensures { result ≡ has_at c m.now d a i }
 {
-    let e = read_entry(m, c, d, i);
-    if i < read_count(m, c, d) {
-        return e.address == a;
-    }
-    false
+    i < read_count(m, c, d) && read_entry(m, c, d, i).address == a
 }
 
-pub fn find_entry(m: &Memory, c: Copy, d: u64, a: u64) -> Found
+pub fn find_entry(m: &Memory, c: Copy, d: u64, a: u64) -> Option<u64>
     ensures { result ≡ entry_for c m.now d a }
 {
-    if has_at(m, c, d, a, 0) {
-        return Found::Here(0);
+    for i in 0..4 {
+        if has_at(m, c, d, a, i) {
+            return Some(i);
+        }
     }
-    if has_at(m, c, d, a, 1) {
-        return Found::Here(1);
-    }
-    if has_at(m, c, d, a, 2) {
-        return Found::Here(2);
-    }
-    if has_at(m, c, d, a, 3) {
-        return Found::Here(3);
-    }
-    Found::Missing
+    None
 }

@@ -37,10 +37,3 @@ pub struct Sizes {
     pub k: u64,
     pub w: u64,
 }
-
-// What a search found: the number of an entry, or of a descriptor.
-#[derive(Clone, Copy, PartialEq, Eq, Debug)]
-pub enum Found {
-    Here(u64),
-    Missing,
-}

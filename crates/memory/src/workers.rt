@@ -35,20 +35,14 @@ fn put_row(m: &mut Memory, i: usize, r: Row)
 }
 
 // The row of worker w; zeros, which are an idle worker's, where there is none.
+#[tactic(auto, unfolding(crate::specs::Block::slot, crate::specs::Block::at))]
 pub fn read_row(m: &Memory, w: u64) -> Row
     ensures { result ≡ row_in m.now w }
 {
     if w < 8 {
         return row_from(m, 576 + 8 * w as usize);
     }
-    Row {
-        tag: 0,
-        own: 0,
-        job: 0,
-        place: 0,
-        entry: 0,
-        noted: 0,
-    }
+    Row::default()
 }
 
 pub fn read_worker(m: &Memory, w: u64) -> Worker
@@ -57,6 +51,7 @@ pub fn read_worker(m: &Memory, w: u64) -> Worker
     worker_of(read_row(m, w))
 }
 
+#[tactic(auto, unfolding(crate::specs::Content::put_row, crate::specs::Block::slot, crate::specs::Block::store))]
 pub fn put_worker(m: &mut Memory, w: u64, x: Worker)
     ensures { m.new ≡ put_worker m.old w x }
 {
@@ -67,6 +62,7 @@ pub fn put_worker(m: &mut Memory, w: u64, x: Worker)
 }
 
 // The same for a worker that runs an operation: a step that goes on, which most do, is stored without a look at what else a worker can be.
+#[tactic(auto, unfolding(crate::specs::Content::put_row, crate::specs::Block::slot, crate::specs::Block::store))]
 pub fn put_working(m: &mut Memory, w: u64, o: Own, job: u64, p: Place)
     ensures { m.new ≡ put_worker m.old w (Worker.Working o job p) }
 {
@@ -77,16 +73,16 @@ pub fn put_working(m: &mut Memory, w: u64, o: Own, job: u64, p: Place)
 }
 
 // All workers become idle.
+#[tactic(auto, unfolding(crate::specs::Content::idled))]
 pub fn idle_workers(m: &mut Memory)
     ensures { m.new ≡ idled m.old 8 }
 {
-    let mut w = 0;
-    while w < 8 {
+    for w in 0..8 {
         put_worker(m, w, Worker::Idle);
-        w = w + 1;
     }
 }
 
+#[tactic(auto, unfolding(crate::specs::Block::slot, crate::specs::Block::at))]
 pub fn read_recovery(m: &Memory) -> RecoveryPlace
     ensures { result ≡ recovery_in m.now }
 {
@@ -98,6 +94,7 @@ pub fn read_recovery(m: &Memory) -> RecoveryPlace
     recovery_of(s)
 }
 
+#[tactic(auto, unfolding(crate::specs::Block::slot))]
 pub fn put_recovery(m: &mut Memory, p: RecoveryPlace)
     ensures { m.new ≡ put_recovery m.old p }
 {

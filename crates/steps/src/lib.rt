@@ -71,7 +71,7 @@ pub enum RecoveryPlace {
 }
 
 // An entry of a body.
-#[derive(Clone, Copy, PartialEq, Eq, Debug)]
+#[derive(Clone, Copy, PartialEq, Eq, Default, Debug)]
 pub struct Entry {
     pub address: u64,
     pub expected: u64,

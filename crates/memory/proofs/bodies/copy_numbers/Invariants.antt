@@ -1,10 +1,6 @@
 use mathlib.Core.Path.{◌≡◌}
-use Prim.Native.Nat.{◌≤◌, ◌-◌}
 use Rattle.memory.specs.Content.{copied}
 use Rattle.memory.proofs.bodies.copy_numbers.Given as goal
 
 abbrev pub invariant-loop-i : goal.invariant-loop-i
-invariant-loop-i l = (l.m ≡ copied l.initial.m l.from l.to l.i) × (l.i ≤ l.n)
-
-abbrev pub decreases-loop-i : goal.decreases-loop-i
-decreases-loop-i l = l.n - l.i
+invariant-loop-i l = l.m ≡ copied l.initial.m l.from l.to l.i

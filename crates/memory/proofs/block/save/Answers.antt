@@ -1,9 +1,0 @@
-use Rattle.memory.proofs.SlotLaws.{store_in, store_out}
-use Rattle.std.proofs.Common.{rules}
-use Rattle.memory.proofs.block.save.Goals as goal
-
-pub returns-then-i-lt646 : goal.returns-then-i-lt646
-returns-then-i-lt646 c = search (rules, store_in)
-
-pub returns-else-i-lt646 : goal.returns-else-i-lt646
-returns-else-i-lt646 c = search (rules, store_out)
