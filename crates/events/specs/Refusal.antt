@@ -1,5 +1,5 @@
 -- The refusals 4 to 17: for each kind of event the ordered table of numbers and conditions of document 01, of which the first that holds is given.
-use Rattle.std.specs.Prelude.{Bool, true, false, cond, not, ◌||◌, List, [], ◌∷◌, ℕ, ◌^◌, eqb, leb, None, Option, Some}
+use Rattle.std.specs.Prelude.{Bool, true, false, cond, not, ◌||◌, List, [], ◌∷◌, ℕ, ◌^◌, eqb, leb, None, Option, Some, Result, Ok, Err}
 use Rattle.steps.specs.declared.Worker.{Worker}
 use Rattle.steps.specs.declared.Worker.TheVariants.{Idle, Building, Working, Reading, ReadClear}
 use Rattle.steps.specs.declared.Entry.{Entry}
@@ -12,6 +12,8 @@ use Rattle.memory.specs.Fresh.{sizes_in}
 use Rattle.memory.specs.Value.{entry_for}
 use Rattle.events.specs.declared.Event.{Event}
 use Rattle.events.specs.declared.Event.TheVariants.{Open, Add, Remove, Submit, Discard, Read, Step, BackWord, BackStatus, BackBody, Crash, Recover}
+use Rattle.events.specs.declared.Refusal.{Refusal}
+use Rattle.events.specs.Number.{number}
 use Rattle.events.specs.Build.{build_of, lowest_below}
 
 pub record Check : Type 0 where
@@ -138,3 +140,8 @@ refusal_of m e = first_of (checks_of m e)
 -- the refusal r or, where there is none, this one if it holds
 abbrev pub or_else : ℕ → ℕ → Bool → ℕ
 or_else r n t = cond (eqb r 0) (cond t n 0) r
+
+-- what a table of checks comes to: the number of the refusal, 0 where nothing is refused
+abbrev pub refused : Result Unit Refusal → ℕ
+refused (Ok u) = 0
+refused (Err r) = number r

@@ -1,128 +1,93 @@
 // Records 01 to 03: opening a descriptor, adding and removing a word.
-ghost use Rattle.std.specs.Prelude.{◌≡◌, ◌+◌, ◌<◌, ◌^◌, eqb};
-ghost use Rattle.steps.specs.Plan.{is_free};
+ghost use Rattle.std.specs.Prelude.{◌≡◌, ◌+◌, ◌<◌, ◌^◌};
 ghost use Rattle.events.specs.Build as B;
 ghost use Rattle.events.specs.Left.{left};
 
-use crate::Answer;
+use crate::{Answer, Refusal};
 use memory::{
-    Copy, Found, Memory, clear_body, put_count, put_entry, put_worker, read_count, read_entry,
+    Copy, Memory, clear_body, put_count, put_entry, put_worker, read_count, read_entry,
     read_status, read_worker,
 };
 use steps::{Entry, Own, Worker};
 use word::Status;
 
-fn same(a: u64, b: u64) -> bool
-    ensures { result ≡ eqb a b }
-{
-    a == b
-}
-
 pub fn owner_of(o: Own, d: u64) -> bool
     ensures { result ≡ B.owner_of o d }
 {
-    match o {
-        Own::Operation(e) => same(e, d),
-        Own::Read(_) => false,
-    }
+    o == Own::Operation(d)
 }
 
 fn owns(x: Worker, d: u64) -> bool
     ensures { result ≡ B.owns x d }
 {
     match x {
-        Worker::Idle => false,
-        Worker::Building(e) => same(e, d),
+        Worker::Building(e) => e == d,
         Worker::Working(o, _, _) => owner_of(o, d),
-        Worker::Reading(_) => false,
-        Worker::ReadClear(_, _) => false,
+        _ => false,
     }
 }
 
 fn owned(m: &Memory, d: u64) -> bool
     ensures { result ≡ B.owned_below m.now d 8 }
 {
-    let mut w = 0;
-    while w < 8 {
+    for w in 0..8 {
         if owns(read_worker(m, w), d) {
             return true;
         }
-        w = w + 1;
     }
     false
 }
 
-fn is_free(s: Status) -> bool
-    ensures { result ≡ is_free s }
-{
-    match s {
-        Status::Free => true,
-        Status::Undecided => false,
-        Status::Decided(_, _) => false,
-        Status::Bad(_) => false,
-    }
-}
-
+#[tactic(auto, unfolding(crate::specs::Build::qualifies))]
 fn qualifies(m: &Memory, d: u64) -> bool
     ensures { result ≡ B.qualifies m.now d }
 {
-    if is_free(read_status(m, Copy::Cached, d)) {
-        if is_free(read_status(m, Copy::Persisted, d)) {
-            if owned(m, d) {
-                return false;
-            }
-            return true;
-        }
-        return false;
-    }
-    false
+    read_status(m, Copy::Cached, d) == Status::Free
+        && read_status(m, Copy::Persisted, d) == Status::Free
+        && !owned(m, d)
 }
 
 // The lowest descriptor below k that qualifies.
-pub fn lowest(m: &Memory, k: u64) -> Found
+pub fn lowest(m: &Memory, k: u64) -> Option<u64>
     ensures { result ≡ B.lowest_below m.now k }
 {
-    let mut d = 0;
-    while d < k {
+    for d in 0..k {
         if qualifies(m, d) {
-            return Found::Here(d);
+            return Some(d);
         }
-        d = d + 1;
     }
-    Found::Missing
+    None
 }
 
-pub fn open_found(m: &mut Memory, w: u64, f: Found) -> Answer
+pub fn open_found(m: &mut Memory, w: u64, f: Option<u64>) -> Answer
     ensures { left m.new result ≡ B.opened m.old w f }
 {
-    match f {
-        Found::Here(d) => {
-            clear_body(m, d);
-            put_worker(m, w, Worker::Building(d));
-            Answer::Opened(d)
-        }
-        Found::Missing => Answer::Refused(9),
-    }
+    let Some(d) = f else {
+        return Answer::Refused(u64::from(Refusal::NoneQualifies));
+    };
+    clear_body(m, d);
+    put_worker(m, w, Worker::Building(d));
+    Answer::Opened(d)
 }
 
 // From entry i down, those for a higher address move up by one; e goes to the place left.
+#[tactic(auto, unfolding(crate::specs::Build::inserted))]
 fn insert(m: &mut Memory, count: u64, d: u64, e: Entry)
     ensures { m.new ≡ B.inserted count m.old d e }
 {
-    let mut i = count;
-    while 0 < i {
-        let x = read_entry(m, Copy::Cached, d, i - 1);
+    for i in (0..count).rev() {
+        let x = read_entry(m, Copy::Cached, d, i);
         if x.address <= e.address {
-            put_entry(m, d, i, e);
+            put_entry(m, d, i + 1, e);
             return;
         }
-        put_entry(m, d, i, x);
-        i = i - 1;
+        put_entry(m, d, i + 1, x);
     }
     put_entry(m, d, 0, e);
 }
 
 // Kept sorted; a body has room for four.
+#[tactic(auto, unfolding(crate::specs::Build::added))]
 pub fn add(m: &mut Memory, d: u64, e: Entry)
     ensures { m.new ≡ B.added m.old d e }
 {
@@ -134,30 +99,19 @@ pub fn add(m: &mut Memory, d: u64, e: Entry)
 }
 
 // The n entries after i move down; the place left over becomes zeros.
+#[tactic(auto, unfolding(crate::specs::Build::moved_down))]
 fn move_down(m: &mut Memory, n: u64, d: u64, i: u64)
     requires { i + n < 2 ^ 64 }
     ensures { m.new ≡ B.moved_down n m.old d i }
 {
-    let mut left = n;
-    let mut at = i;
-    while 0 < left {
-        let x = read_entry(m, Copy::Cached, d, at + 1);
-        put_entry(m, d, at, x);
-        at = at + 1;
-        left = left - 1;
+    for j in i..i + n {
+        let x = read_entry(m, Copy::Cached, d, j + 1);
+        put_entry(m, d, j, x);
     }
-    put_entry(
-        m,
-        d,
-        at,
-        Entry {
-            address: 0,
-            expected: 0,
-            desired: 0,
-        },
-    );
+    put_entry(m, d, i + n, Entry::default());
 }
 
+#[tactic(auto, unfolding(crate::specs::Build::removed_entry))]
 fn remove_entry(m: &mut Memory, d: u64, i: u64)
     ensures { m.new ≡ B.removed_entry m.old d i }
 {
@@ -168,11 +122,10 @@ fn remove_entry(m: &mut Memory, d: u64, i: u64)
     }
 }
 
-pub fn remove(m: &mut Memory, d: u64, f: Found)
+pub fn remove(m: &mut Memory, d: u64, f: Option<u64>)
     ensures { m.new ≡ B.removed_at m.old d f }
 {
-    match f {
-        Found::Here(i) => remove_entry(m, d, i),
-        Found::Missing => {}
+    if let Some(i) = f {
+        remove_entry(m, d, i);
     }
 }

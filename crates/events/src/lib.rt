@@ -1,6 +1,9 @@
 // Events and answers of document 01, the refusals 4 to 17, and the events that build a descriptor (records 01 to 03).
 #![tactic(auto)]
 
+ghost use Rattle.std.specs.Prelude.{◌≡◌};
+ghost use Rattle.events.specs.Number.{number};
+
 mod build;
 mod refuse;
 
@@ -42,4 +45,31 @@ pub enum Answer {
     Recovering,
     Recovered,
     Refused(u64),
+}
+
+// The refusals that an event can meet, by their numbers.
+#[derive(Clone, Copy, PartialEq, Eq, Debug)]
+pub enum Refusal {
+    NoWorker = 4,
+    InRecovery = 5,
+    OutsideRecovery = 6,
+    OwnsSomething = 7,
+    NotBuilding = 8,
+    NoneQualifies = 9,
+    NoAddress = 10,
+    TooLarge = 11,
+    FifthWord = 12,
+    AlreadyAdded = 13,
+    NotThere = 14,
+    CountZero = 15,
+    RunsNothing = 16,
+    NoDescriptor = 17,
+}
+
+impl From<Refusal> for u64 {
+    ghost from_gives = { λ r n. n ≡ number r };
+
+    fn from(r: Refusal) -> u64 {
+        r as u64
+    }
 }

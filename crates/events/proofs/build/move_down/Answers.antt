@@ -1,10 +1,10 @@
-use Rattle.std.proofs.Common.{rules}
-use Rattle.std.proofs.Common.{arith}
-use Rattle.events.proofs.BuildLaws.{down_next, down_end}
+use Rattle.std.proofs.Common.{◌≡◌, ◌+◌, ◌-◌, suc, arith}
+use Rattle.events.specs.Build.{moved_down}
 use Rattle.events.proofs.build.move_down.Goals as goal
 
-pub loop-left-preserved : goal.loop-left-preserved
-loop-left-preserved c = (search (rules, down_next), omega arith)
-
-pub returns : goal.returns
-returns c = search (rules, down_end)
+pub loop-j-preserved : goal.loop-j-preserved
+unfolding moved_down
+loop-j-preserved c =
+    let n : c.args.i + c.args.n - c.loop-j.j ≡ suc (c.args.i + c.args.n - (c.loop-j.j + 1)) = omega arith in
+    let k : c.loop-j.j + 1 ≡ suc c.loop-j.j = omega arith in
+    rw (c.put_entry.ensures, c.read_entry-x.ensures, k) (rw (n, k) at c.loop-j.invariant)

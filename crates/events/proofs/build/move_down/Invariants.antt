@@ -1,10 +1,6 @@
-use mathlib.Core.Path.{◌≡◌}
-use Prim.Native.Nat.{◌+◌}
+use Rattle.std.proofs.Common.{◌≡◌, ◌-◌}
 use Rattle.events.specs.Build.{moved_down}
 use Rattle.events.proofs.build.move_down.Given as goal
 
-abbrev pub invariant-loop-left : goal.invariant-loop-left
-invariant-loop-left l = (moved_down l.left l.m l.d l.at ≡ moved_down l.n l.initial.m l.d l.i) × (l.at + l.left ≡ l.i + l.n)
-
-abbrev pub decreases-loop-left : goal.decreases-loop-left
-decreases-loop-left l = l.left
+abbrev pub invariant-loop-j : goal.invariant-loop-j
+invariant-loop-j l = moved_down (l.j-end - l.j) l.m l.d l.j ≡ moved_down l.n l.initial.m l.d l.i
