@@ -1,3 +1,1 @@
 pub mod StepLaws
-pub mod RecoverLaws
-pub mod ApplyLaws

@@ -1,5 +1,6 @@
 -- The machine: `apply_of` for one event, `after_of` for a list of them.
-use Rattle.std.specs.Prelude.{List, [], ◌∷◌, ℕ, zero, suc}
+use Rattle.std.specs.Prelude.{List, [], ◌∷◌, ℕ, zero, suc, Result, Err}
+use Rattle.std.specs.Prelude as Std
 use Rattle.memory.specs.Block.{Block}
 use Rattle.memory.specs.Content.{back_word, back_status, back_body, worker_in, recovery_in}
 use Rattle.memory.specs.Fresh.{sizes_in}
@@ -10,6 +11,8 @@ use Rattle.events.specs.declared.Event.TheVariants.{Open, Add, Remove, Submit, D
 use Rattle.events.specs.declared.Answer.{Answer}
 use Rattle.events.specs.declared.Answer.TheVariants.{Ok, Refused}
 use Rattle.events.specs.Left.{Left, left}
+use Rattle.events.specs.declared.Refusal.{Refusal}
+use Rattle.events.specs.Number.{number}
 use Rattle.events.specs.Refusal.{refusal_of}
 use Rattle.events.specs.Build.{lowest_below, opened, build_of, added, removed_at, submitted, discarded, reading}
 use Rattle.machine.specs.Step.{step_of}
@@ -37,6 +40,11 @@ unless_refused (suc r) m e = left m (Refused (suc r))
 
 unfoldable pub apply_of : Block → Event → Left
 apply_of m e = unless_refused (refusal_of m e) m e
+
+-- the answer of an attempt: its own, or the refusal's number
+abbrev pub answer : Result Answer Refusal → Answer
+answer (Std.Ok a) = a
+answer (Err r) = Refused (number r)
 
 -- after a list of events: the memory, and all the answers
 pub record Run : Type 0 where

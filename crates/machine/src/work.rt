@@ -1,23 +1,24 @@
 // Record 07: one step of a worker.
-ghost use Rattle.std.specs.Prelude.{◌≡◌, false, eqb};
+ghost use Rattle.std.specs.Prelude.{◌≡◌, false};
 ghost use Rattle.codes.specs.Row.{is_working, worker_of};
 ghost use Rattle.machine.specs.Step as S;
 ghost use Rattle.events.specs.Left.{left};
 
 use codes::{Row, is_working, own_in, place_in, worker_of};
-use events::{Answer, owner_of};
+use events::{Answer, Refusal, owner_of};
 use memory::{
     Copy, Memory, back_body, back_status, back_word, put_status, put_word, put_worker, put_working,
     read_count, read_entry, read_status, read_word, read_worker,
 };
 use steps::{
-    Effect, Next, Own, Place, Plan, ReadNext, ReadPlan, Seen, Worker, decide, goes, install,
-    install_clear, persist_clear, planned, read_clear_plan, read_plan, settle, settle_clear,
-    store_free, swap, swap_clear,
+    Effect, Next, Own, Place, Plan, ReadNext, Seen, Worker, decide, goes, install, install_clear,
+    persist_clear, planned, read_clear_plan, read_plan, settle, settle_clear, store_free, swap,
+    swap_clear,
 };
 use word::Status;
 
 // What a step at entry i of d looks at.
+#[tactic(auto, unfolding(crate::specs::Step::seen_in))]
 pub(crate) fn look(m: &Memory, c: Copy, d: u64, i: u64) -> Seen
     ensures { result ≡ S.seen_in c m.now d i }
 {
@@ -61,43 +62,27 @@ pub(crate) fn perform_apart(m: &mut Memory, d: u64, e: Effect)
     }
 }
 
-fn same(a: u64, b: u64) -> bool
-    ensures { result ≡ eqb a b }
-{
-    a == b
-}
-
 fn on_job(x: Worker, d: u64) -> bool
     ensures { result ≡ S.on_job x d }
 {
-    match x {
-        Worker::Idle => false,
-        Worker::Building(_) => false,
-        Worker::Working(_, e, _) => same(e, d),
-        Worker::Reading(_) => false,
-        Worker::ReadClear(_, _) => false,
-    }
+    matches!(x, Worker::Working(_, e, _) if e == d)
 }
 
+#[tactic(auto, unfolding(crate::specs::Step::other_on))]
 fn other_on(m: &Memory, w: u64, d: u64, v: u64) -> bool
     ensures { result ≡ S.other_on m.now w d v }
 {
-    if v == w {
-        return false;
-    }
-    on_job(read_worker(m, v), d)
+    v != w && on_job(read_worker(m, v), d)
 }
 
 // Another worker than w is on d.
 fn others_on(m: &Memory, w: u64, d: u64) -> bool
     ensures { result ≡ S.others_on m.now w d 8 }
 {
-    let mut v = 0;
-    while v < 8 {
+    for v in 0..8 {
         if other_on(m, w, d, v) {
             return true;
         }
-        v = v + 1;
     }
     false
 }
@@ -112,15 +97,16 @@ fn start_of(o: Own) -> Worker
 }
 
 // The address of entry i of d.
+#[tactic(auto, unfolding(crate::specs::Step::seen_in))]
 fn address_of(m: &Memory, d: u64, i: u64) -> u64
     ensures { result ≡ (S.seen_in Copy.Cached m.now d i).entry.address }
 {
-    let e = read_entry(m, Copy::Cached, d, i);
-    e.address
+    read_entry(m, Copy::Cached, d, i).address
 }
 
 // The plan of a step of d at place p, from what the place needs to see and no more.
-fn plan_at(m: &Memory, w: u64, o: Own, d: u64, p: Place) -> Plan
+#[tactic(auto, unfolding(crate::specs::Step::plan_at, crate::specs::Step::seen_in))]
+fn plan_at(m: &Memory, w: u64, o: Own, d: u64, p: Place) -> Plan<Next>
     ensures { result ≡ S.plan_at m.now w o d p }
 {
     match p {
@@ -173,24 +159,20 @@ fn arrive(m: &mut Memory, w: u64, o: Own, e: u64, p: Place, n: Next) -> Answer
     }
 }
 
+#[tactic(auto, unfolding(crate::specs::Step::work_step))]
 fn work_step(m: &mut Memory, w: u64, o: Own, e: u64, p: Place) -> Answer
     ensures { left m.new result ≡ S.work_step m.old w o e p }
 {
     let q = plan_at(m, w, o, e, p);
-    let effect = q.effect;
-    let next = q.next;
-    perform(m, e, effect);
-    arrive(m, w, o, e, p, next)
+    perform(m, e, q.effect);
+    arrive(m, w, o, e, p, q.next)
 }
 
 fn read_after(a: u64, n: ReadNext) -> Worker
     ensures { result ≡ S.read_after a n }
 {
     match n {
-        ReadNext::Meet(e) => {
-            let o = Own::Read(a);
-            Worker::Working(o, e, Place::Install(0))
-        }
+        ReadNext::Meet(e) => Worker::Working(Own::Read(a), e, Place::Install(0)),
         ReadNext::Clear(v) => Worker::ReadClear(a, v),
         ReadNext::Value(_) => Worker::Idle,
     }
@@ -206,16 +188,15 @@ fn read_answer(n: ReadNext) -> Answer
     }
 }
 
-fn read_out(m: &mut Memory, w: u64, a: u64, q: ReadPlan) -> Answer
+fn read_out(m: &mut Memory, w: u64, a: u64, q: Plan<ReadNext>) -> Answer
     ensures { left m.new result ≡ S.read_out m.old w a q }
 {
-    let effect = q.effect;
-    let next = q.next;
-    perform_apart(m, 0, effect);
-    put_worker(m, w, read_after(a, next));
-    read_answer(next)
+    perform_apart(m, 0, q.effect);
+    put_worker(m, w, read_after(a, q.next));
+    read_answer(q.next)
 }
 
+#[tactic(auto, unfolding(crate::specs::Step::read_step))]
 fn read_step(m: &mut Memory, w: u64, a: u64) -> Answer
     ensures { left m.new result ≡ S.read_step m.old w a }
 {
@@ -223,6 +204,7 @@ fn read_step(m: &mut Memory, w: u64, a: u64) -> Answer
     read_out(m, w, a, read_plan(a, s))
 }
 
+#[tactic(auto, unfolding(crate::specs::Step::read_clear_step))]
 fn read_clear_step(m: &mut Memory, w: u64, a: u64, v: u64) -> Answer
     ensures { left m.new result ≡ S.read_clear_step m.old w a v }
 {
@@ -236,15 +218,14 @@ fn rest_step(m: &mut Memory, w: u64, x: Worker) -> Answer
     ensures { left m.new result ≡ S.step_of m.old w x }
 {
     match x {
-        Worker::Idle => Answer::Refused(16),
-        Worker::Building(_) => Answer::Refused(16),
-        Worker::Working(_, _, _) => Answer::Refused(16),
         Worker::Reading(a) => read_step(m, w, a),
         Worker::ReadClear(a, v) => read_clear_step(m, w, a, v),
+        _ => Answer::Refused(u64::from(Refusal::RunsNothing)),
     }
 }
 
 // A step of worker w, whose row is r. The place is read from the row where it is matched next, so that the compiler makes one choice of the two.
+#[tactic(auto, using(codes::specs::Round::working_row))]
 pub(crate) fn step(m: &mut Memory, w: u64, r: Row) -> Answer
     ensures { left m.new result ≡ S.step_of m.old w (worker_of r) }
 {

@@ -1,11 +1,6 @@
-use mathlib.Core.Path.{◌≡◌}
-use Prim.Native.Nat.{◌≤◌, ◌-◌}
-use mathlib.Core.Bool.{false}
+use Rattle.std.proofs.Common.{◌≡◌, false}
 use Rattle.machine.specs.Step.{others_on}
 use Rattle.machine.proofs.work.others_on.Given as goal
 
 abbrev pub invariant-loop-v : goal.invariant-loop-v
-invariant-loop-v l = (others_on l.m l.w l.d l.v ≡ false) × (l.v ≤ 8)
-
-abbrev pub decreases-loop-v : goal.decreases-loop-v
-decreases-loop-v l = 8 - l.v
+invariant-loop-v l = others_on l.m l.w l.d l.v ≡ false

@@ -1,6 +1,0 @@
-use Rattle.machine.proofs.StepLaws.{read_law}
-use Rattle.std.proofs.Common.{rules}
-use Rattle.machine.proofs.work.read_step.Goals as goal
-
-pub returns : goal.returns
-returns c = search (rules, read_law)
