@@ -3,6 +3,7 @@ pub mod Left
 pub mod Build
 pub mod Number
 pub mod Refusal
+pub mod Named
 pub mod First
 pub mod Lowest
 pub mod Coincide
