@@ -1,5 +1,5 @@
 -- Records 02 and 03 on the view: an entry put in, an entry taken out.
-use Rattle.std.specs.Prelude.{◌≡◌, refl, ◌≢◌, Bool, true, false, cond, ℕ, zero, suc, ◌+◌, ◌-◌, ◌<◌, ◌≤◌}
+use Rattle.std.specs.Prelude.{◌≡◌, refl, ◌≢◌, Bool, true, false, cond, ℕ, Option, zero, suc, ◌+◌, ◌-◌, ◌<◌, ◌≤◌}
 use Rattle.std.proofs.Common.{sym, ap, ◌∙◌, subst, arith, lt-ltb, eq-eqb, None, Some}
 use Rattle.std.proofs.Math.Decide.{ℕ_discrete}
 use Rattle.steps.specs.declared.Entry.{Entry}
@@ -114,7 +114,7 @@ missing_not m d a e j l c p = go (has_at Cached m d a 0) (has_at Cached m d a 1)
     which i q f = let t : has_at Cached m d a i ≡ true = rw (← q) at_j in clash (cc)
 
     go : (t u v w : Bool) → has_at Cached m d a 0 ≡ t → has_at Cached m d a 1 ≡ u → has_at Cached m d a 2 ≡ v → has_at Cached m d a 3 ≡ w
-        → cond t (Some 0) (cond u (Some 1) (cond v (Some 2) (cond w (Some 3) None))) ≡ None → ⊥
+        → cond {A = Option ℕ} t (Some 0) (cond u (Some 1) (cond v (Some 2) (cond w (Some 3) None))) ≡ None → ⊥
     go true u v w e₀ e₁ e₂ e₃ f = clash (cc)
     go false true v w e₀ e₁ e₂ e₃ f = clash (cc)
     go false false true w e₀ e₁ e₂ e₃ f = clash (cc)

@@ -38,32 +38,32 @@ remove _ _ _ _ _ _ _ _ = (tt, λ given. given)
 pub build-of : (κs x r x' : _) → FnBuildOf.Asked κs (x, tt) × (FnBuildOf.Learnt κs (x, tt) r (x', tt) → r ≡ B.build_of x)
 build-of _ _ _ _ = (tt, λ given. given)
 
-pub refuse_open : (κs m w x f r m' w' x' f' : _) → FnRefuseOpen.Asked κs (m, (w, (x, (f, tt)))) × (FnRefuseOpen.Learnt κs (m, (w, (x, (f, tt)))) r (m', (w', (x', (f', tt)))) → r ≡ R.first_of (R.open_checks m.now w x f))
+pub refuse_open : (κs m w x f r m' w' x' f' : _) → FnRefuseOpen.Asked κs (m, (w, (x, (f, tt)))) × (FnRefuseOpen.Learnt κs (m, (w, (x, (f, tt)))) r (m', (w', (x', (f', tt)))) → R.refused r ≡ R.first_of (R.open_checks m.now w x f))
 refuse_open _ _ _ _ _ _ _ _ _ _ = (tt, λ given. given)
 
-pub refuse_add : (κs m w x e r m' w' x' e' : _) → FnRefuseAdd.Asked κs (m, (w, (x, (e, tt)))) × (FnRefuseAdd.Learnt κs (m, (w, (x, (e, tt)))) r (m', (w', (x', (e', tt)))) → r ≡ R.first_of (R.add_checks m.now w x e))
+pub refuse_add : (κs m w x e r m' w' x' e' : _) → FnRefuseAdd.Asked κs (m, (w, (x, (e, tt)))) × (FnRefuseAdd.Learnt κs (m, (w, (x, (e, tt)))) r (m', (w', (x', (e', tt)))) → R.refused r ≡ R.first_of (R.add_checks m.now w x e))
 refuse_add _ _ _ _ _ _ _ _ _ _ = (tt, λ given. given)
 
-pub refuse_remove : (κs m w x a f r m' w' x' a' f' : _) → FnRefuseRemove.Asked κs (m, (w, (x, (a, (f, tt))))) × (FnRefuseRemove.Learnt κs (m, (w, (x, (a, (f, tt))))) r (m', (w', (x', (a', (f', tt))))) → r ≡ R.first_of (R.remove_checks m.now w x a f))
+pub refuse_remove : (κs m w x a f r m' w' x' a' f' : _) → FnRefuseRemove.Asked κs (m, (w, (x, (a, (f, tt))))) × (FnRefuseRemove.Learnt κs (m, (w, (x, (a, (f, tt))))) r (m', (w', (x', (a', (f', tt))))) → R.refused r ≡ R.first_of (R.remove_checks m.now w x a f))
 refuse_remove _ _ _ _ _ _ _ _ _ _ _ _ = (tt, λ given. given)
 
-pub refuse_submit : (κs m w x r m' w' x' : _) → FnRefuseSubmit.Asked κs (m, (w, (x, tt))) × (FnRefuseSubmit.Learnt κs (m, (w, (x, tt))) r (m', (w', (x', tt))) → r ≡ R.first_of (R.submit_checks m.now w x))
+pub refuse_submit : (κs m w x r m' w' x' : _) → FnRefuseSubmit.Asked κs (m, (w, (x, tt))) × (FnRefuseSubmit.Learnt κs (m, (w, (x, tt))) r (m', (w', (x', tt))) → R.refused r ≡ R.first_of (R.submit_checks m.now w x))
 refuse_submit _ _ _ _ _ _ _ _ = (tt, λ given. given)
 
-pub refuse_discard : (κs m w x r m' w' x' : _) → FnRefuseDiscard.Asked κs (m, (w, (x, tt))) × (FnRefuseDiscard.Learnt κs (m, (w, (x, tt))) r (m', (w', (x', tt))) → r ≡ R.first_of (R.discard_checks m.now w x))
+pub refuse_discard : (κs m w x r m' w' x' : _) → FnRefuseDiscard.Asked κs (m, (w, (x, tt))) × (FnRefuseDiscard.Learnt κs (m, (w, (x, tt))) r (m', (w', (x', tt))) → R.refused r ≡ R.first_of (R.discard_checks m.now w x))
 refuse_discard _ _ _ _ _ _ _ _ = (tt, λ given. given)
 
-pub refuse_read : (κs m w x a r m' w' x' a' : _) → FnRefuseRead.Asked κs (m, (w, (x, (a, tt)))) × (FnRefuseRead.Learnt κs (m, (w, (x, (a, tt)))) r (m', (w', (x', (a', tt)))) → r ≡ R.first_of (R.read_checks m.now w x a))
+pub refuse_read : (κs m w x a r m' w' x' a' : _) → FnRefuseRead.Asked κs (m, (w, (x, (a, tt)))) × (FnRefuseRead.Learnt κs (m, (w, (x, (a, tt)))) r (m', (w', (x', (a', tt)))) → R.refused r ≡ R.first_of (R.read_checks m.now w x a))
 refuse_read _ _ _ _ _ _ _ _ _ _ = (tt, λ given. given)
 
-pub refuse_step : (κs m w x r m' w' x' : _) → FnRefuseStep.Asked κs (m, (w, (x, tt))) × (FnRefuseStep.Learnt κs (m, (w, (x, tt))) r (m', (w', (x', tt))) → r ≡ R.first_of (R.step_checks m.now w x))
+pub refuse_step : (κs m w x r m' w' x' : _) → FnRefuseStep.Asked κs (m, (w, (x, tt))) × (FnRefuseStep.Learnt κs (m, (w, (x, tt))) r (m', (w', (x', tt))) → R.refused r ≡ R.first_of (R.step_checks m.now w x))
 refuse_step _ _ _ _ _ _ _ _ = (tt, λ given. given)
 
-pub refuse_word : (κs m a r m' a' : _) → FnRefuseWord.Asked κs (m, (a, tt)) × (FnRefuseWord.Learnt κs (m, (a, tt)) r (m', (a', tt)) → r ≡ R.first_of (R.no_address m.now a ∷ []))
+pub refuse_word : (κs m a r m' a' : _) → FnRefuseWord.Asked κs (m, (a, tt)) × (FnRefuseWord.Learnt κs (m, (a, tt)) r (m', (a', tt)) → R.refused r ≡ R.first_of (R.no_address m.now a ∷ []))
 refuse_word _ _ _ _ _ _ = (tt, λ given. given)
 
-pub refuse_descriptor : (κs m d r m' d' : _) → FnRefuseDescriptor.Asked κs (m, (d, tt)) × (FnRefuseDescriptor.Learnt κs (m, (d, tt)) r (m', (d', tt)) → r ≡ R.first_of (R.no_descriptor m.now d ∷ []))
+pub refuse_descriptor : (κs m d r m' d' : _) → FnRefuseDescriptor.Asked κs (m, (d, tt)) × (FnRefuseDescriptor.Learnt κs (m, (d, tt)) r (m', (d', tt)) → R.refused r ≡ R.first_of (R.no_descriptor m.now d ∷ []))
 refuse_descriptor _ _ _ _ _ _ = (tt, λ given. given)
 
-pub refuse_recover : (κs p r p' : _) → FnRefuseRecover.Asked κs (p, tt) × (FnRefuseRecover.Learnt κs (p, tt) r (p', tt) → r ≡ R.first_of (R.outside_recovery p ∷ []))
+pub refuse_recover : (κs p r p' : _) → FnRefuseRecover.Asked κs (p, tt) × (FnRefuseRecover.Learnt κs (p, tt) r (p', tt) → R.refused r ≡ R.first_of (R.outside_recovery p ∷ []))
 refuse_recover _ _ _ _ = (tt, λ given. given)

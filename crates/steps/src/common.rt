@@ -43,10 +43,18 @@ pub(crate) fn store_if(t: bool, a: u64, s: Sort) -> Effect
     }
 }
 
-pub fn planned<N>(effect: Effect, next: N) -> Plan<N>
+pub(crate) fn plan<N>(effect: Effect, next: N) -> Plan<N>
     ensures { result ≡ P.planned effect next }
 {
     Plan { effect, next }
+}
+
+// The same for a step of an operation. Not generic: that a generic function asks nothing of its caller is no theorem that can be
+// stated of its contract, and of this one it is (`promises`).
+pub fn planned(effect: Effect, next: Next) -> Plan<Next>
+    ensures { result ≡ P.planned effect next }
+{
+    plan(effect, next)
 }
 
 pub fn goes(effect: Effect, p: Place) -> Plan<Next>
@@ -60,10 +68,10 @@ pub fn read_plan(a: u64, s: Sort) -> Plan<ReadNext>
     ensures { result ≡ P.read_plan a s }
 {
     match s {
-        Sort::Plain(v, true) => planned(Effect::BackWord(a), ReadNext::Clear(v)),
-        Sort::Plain(v, false) => planned(Effect::Nothing, ReadNext::Value(v)),
-        Sort::Pointer(e, _) => planned(Effect::Nothing, ReadNext::Meet(e)),
-        Sort::Neither(_) => planned(Effect::Nothing, ReadNext::Value(0)),
+        Sort::Plain(v, true) => plan(Effect::BackWord(a), ReadNext::Clear(v)),
+        Sort::Plain(v, false) => plan(Effect::Nothing, ReadNext::Value(v)),
+        Sort::Pointer(e, _) => plan(Effect::Nothing, ReadNext::Meet(e)),
+        Sort::Neither(_) => plan(Effect::Nothing, ReadNext::Value(0)),
     }
 }
 
@@ -72,5 +80,5 @@ pub fn read_clear_plan(a: u64, v: u64, s: Sort) -> Plan<ReadNext>
     ensures { result ≡ P.read_clear_plan a v s }
 {
     let effect = store_if(s == Sort::Plain(v, true), a, Sort::Plain(v, false));
-    planned(effect, ReadNext::Value(v))
+    plan(effect, ReadNext::Value(v))
 }

@@ -2,7 +2,7 @@
 ghost use Rattle.std.specs.Prelude.{◌≡◌, ◌<◌};
 ghost use Rattle.steps.specs.Recovery as R;
 
-use crate::common::{left_value, planned, points_to, store_if};
+use crate::common::{left_value, plan, points_to, store_if};
 use crate::{Effect, Plan, Seen};
 use word::{Sort, Status};
 
@@ -16,12 +16,12 @@ fn entry_step(d: u64, done: u64, s: Seen) -> Plan<Option<u64>>
     let next = Some(done + 1);
     if done % 2 == 0 {
         let v = left_value(s.status, e);
-        return planned(
+        return plan(
             store_if(points_to(s.word, d), e.address, Sort::Plain(v, false)),
             next,
         );
     }
-    planned(Effect::BackWord(e.address), next)
+    plan(Effect::BackWord(e.address), next)
 }
 
 // After the entries: store Free, then write back the status.
@@ -30,9 +30,9 @@ fn end_step(done: u64) -> Plan<Option<u64>>
     ensures { result ≡ R.end_step done }
 {
     if done % 2 == 0 {
-        return planned(Effect::StoreStatus(Status::Free), Some(done + 1));
+        return plan(Effect::StoreStatus(Status::Free), Some(done + 1));
     }
-    planned(Effect::BackStatus, None)
+    plan(Effect::BackStatus, None)
 }
 
 // A live descriptor, `done` of its steps done.
@@ -52,7 +52,7 @@ pub fn recovery_plan(d: u64, done: u64, s: Seen) -> Plan<Option<u64>>
     ensures { result ≡ R.recovery_plan d done s }
 {
     if done == 0 && s.status == Status::Free {
-        return planned(Effect::Nothing, None);
+        return plan(Effect::Nothing, None);
     }
     live_step(d, done, s)
 }
