@@ -33,7 +33,8 @@ pub(crate) fn look(m: &Memory, c: Copy, d: u64, i: u64) -> Seen
     }
 }
 
-// The one effect of a step of d.
+// The one effect of a step of d. Inline, so that the compiler sees which effect each place of an operation has.
+#[inline(always)]
 fn perform(m: &mut Memory, d: u64, e: Effect)
     ensures { m.new ≡ S.performed m.old d e }
 {
@@ -47,19 +48,12 @@ fn perform(m: &mut Memory, d: u64, e: Effect)
     }
 }
 
-// The same for a read and for recovery, word for word. `perform` is called from one place, so that the compiler puts it there and sees which effect
-// each place of an operation has; with more callers it does not, and `tick` takes a twelfth longer.
+// The same for a read and for recovery, in a place of its own: inlined there too, it makes `tick` slower.
+#[inline(never)]
 pub(crate) fn perform_apart(m: &mut Memory, d: u64, e: Effect)
     ensures { m.new ≡ S.performed m.old d e }
 {
-    match e {
-        Effect::Nothing => {}
-        Effect::StoreWord(a, s) => put_word(m, a, s),
-        Effect::BackWord(a) => back_word(m, a),
-        Effect::StoreStatus(s) => put_status(m, d, s),
-        Effect::BackStatus => back_status(m, d),
-        Effect::BackBody => back_body(m, d),
-    }
+    perform(m, d, e);
 }
 
 fn on_job(x: Worker, d: u64) -> bool
@@ -104,12 +98,22 @@ fn address_of(m: &Memory, d: u64, i: u64) -> u64
     read_entry(m, Copy::Cached, d, i).address
 }
 
-// The plan of a step of d at place p, from what the place needs to see and no more.
+// A worker at work: what it owns, the operation that is its current job, its place there.
+#[derive(Clone, Copy)]
+struct Work {
+    worker: u64,
+    own: Own,
+    job: u64,
+    place: Place,
+}
+
+// The plan of a step, from what its place needs to see and no more.
 #[tactic(auto, unfolding(crate::specs::Step::plan_at, crate::specs::Step::seen_in))]
-fn plan_at(m: &Memory, w: u64, o: Own, d: u64, p: Place) -> Plan<Next>
-    ensures { result ≡ S.plan_at m.now w o d p }
+fn plan_at(m: &Memory, x: Work) -> Plan<Next>
+    ensures { result ≡ S.plan_at m.now x.worker x.own x.job x.place }
 {
-    match p {
+    let d = x.job;
+    match x.place {
         Place::BackBody => goes(Effect::BackBody, Place::StoreUndecided),
         Place::StoreUndecided => goes(Effect::StoreStatus(Status::Undecided), Place::BackUndecided),
         Place::BackUndecided => goes(Effect::BackStatus, Place::Install(0)),
@@ -125,47 +129,47 @@ fn plan_at(m: &Memory, w: u64, o: Own, d: u64, p: Place) -> Plan<Next>
         Place::SettleClear => settle_clear(read_status(m, Copy::Cached, d)),
         Place::Swap(i) => swap(i, d, look(m, Copy::Cached, d, i)),
         Place::SwapBack(i) => goes(Effect::BackWord(address_of(m, d, i)), Place::SwapClear(i)),
-        Place::SwapClear(i) => swap_clear(i, look(m, Copy::Cached, d, i), owner_of(o, d)),
-        Place::StoreFree => store_free(others_on(m, w, d), read_status(m, Copy::Cached, d)),
+        Place::SwapClear(i) => swap_clear(i, look(m, Copy::Cached, d, i), owner_of(x.own, d)),
+        Place::StoreFree => store_free(others_on(m, x.worker, d), read_status(m, Copy::Cached, d)),
         Place::BackFree(r) => planned(Effect::BackStatus, Next::Answer(r)),
     }
 }
 
-// What the worker becomes that owns o and was at place p of operation e, and its answer.
-fn arrive(m: &mut Memory, w: u64, o: Own, e: u64, p: Place, n: Next) -> Answer
-    ensures { left m.new result ≡ S.arrived m.old w o e p n }
+// What the worker becomes, and its answer.
+fn arrive(m: &mut Memory, x: Work, n: Next) -> Answer
+    ensures { left m.new result ≡ S.arrived m.old x.worker x.own x.job x.place n }
 {
     match n {
         Next::Go(q) => {
-            put_working(m, w, o, e, q);
+            put_working(m, x.worker, x.own, x.job, q);
             Answer::Moved
         }
         Next::Help(f) => {
-            put_worker(m, w, Worker::Working(o, f, Place::Install(0)));
+            put_working(m, x.worker, x.own, f, Place::Install(0));
             Answer::Helping(f)
         }
         Next::Over => {
-            put_worker(m, w, start_of(o));
+            put_worker(m, x.worker, start_of(x.own));
             Answer::Moved
         }
         Next::Wait => {
-            put_worker(m, w, Worker::Working(o, e, p));
+            put_working(m, x.worker, x.own, x.job, x.place);
             Answer::Waits
         }
         Next::Answer(r) => {
-            put_worker(m, w, Worker::Idle);
+            put_worker(m, x.worker, Worker::Idle);
             Answer::Answered(r)
         }
     }
 }
 
 #[tactic(auto, unfolding(crate::specs::Step::work_step))]
-fn work_step(m: &mut Memory, w: u64, o: Own, e: u64, p: Place) -> Answer
-    ensures { left m.new result ≡ S.work_step m.old w o e p }
+fn work_step(m: &mut Memory, x: Work) -> Answer
+    ensures { left m.new result ≡ S.work_step m.old x.worker x.own x.job x.place }
 {
-    let q = plan_at(m, w, o, e, p);
-    perform(m, e, q.effect);
-    arrive(m, w, o, e, p, q.next)
+    let q = plan_at(m, x);
+    perform(m, x.job, q.effect);
+    arrive(m, x, q.next)
 }
 
 fn read_after(a: u64, n: ReadNext) -> Worker
@@ -230,7 +234,13 @@ pub(crate) fn step(m: &mut Memory, w: u64, r: Row) -> Answer
     ensures { left m.new result ≡ S.step_of m.old w (worker_of r) }
 {
     if is_working(r) {
-        return work_step(m, w, own_in(r), r.job, place_in(r));
+        let x = Work {
+            worker: w,
+            own: own_in(r),
+            job: r.job,
+            place: place_in(r),
+        };
+        return work_step(m, x);
     }
     rest_step(m, w, worker_of(r))
 }

@@ -21,6 +21,14 @@ pub(crate) fn save(m: &mut Memory, i: usize, v: u64)
     }
 }
 
+// The number at one slot goes to another.
+pub(crate) fn copy_number(m: &mut Memory, from: usize, to: usize)
+    ensures { m.new ≡ store m.old to (at m.old from) }
+{
+    let x = load(m, from);
+    save(m, to, x);
+}
+
 pub(crate) fn base(c: Copy) -> usize
     ensures { (result ≡ base_of c) × (result ≤ 288) }
 {

@@ -5,7 +5,7 @@ ghost use Rattle.memory.specs.Block.Field.{body};
 ghost use Rattle.memory.specs.Content.{count_in, put_count, entry_in, put_entry, clear_body, copied, back_body, crash_copied};
 ghost use Rattle.memory.specs.Value.{has_at, entry_for};
 
-use crate::block::{body_slot, load, save};
+use crate::block::{body_slot, copy_number, load, save};
 use crate::{Copy, Memory};
 use steps::Entry;
 
@@ -79,8 +79,7 @@ fn copy_numbers(m: &mut Memory, from: usize, to: usize, n: usize)
     ensures { m.new ≡ copied m.old from to n }
 {
     for i in 0..n {
-        let x = load(m, from + i);
-        save(m, to + i, x);
+        copy_number(m, from + i, to + i);
     }
 }
 

@@ -2,7 +2,7 @@
 ghost use Rattle.std.specs.Prelude.{◌≡◌};
 ghost use Rattle.memory.specs.Content.{word_in, put_word, back_word, status_in, put_status, back_status};
 
-use crate::block::{load, save, status_slot, word_slot};
+use crate::block::{copy_number, load, save, status_slot, word_slot};
 use crate::{Copy, Memory};
 use word::{Sort, Status, sort_of, status_number, status_of, word_number};
 
@@ -26,8 +26,7 @@ pub fn back_word(m: &mut Memory, a: u64)
 {
     let from = word_slot(Copy::Cached, a);
     let to = word_slot(Copy::Persisted, a);
-    let x = load(m, from);
-    save(m, to, x);
+    copy_number(m, from, to);
 }
 
 pub fn read_status(m: &Memory, c: Copy, d: u64) -> Status
@@ -50,6 +49,5 @@ pub fn back_status(m: &mut Memory, d: u64)
 {
     let from = status_slot(Copy::Cached, d);
     let to = status_slot(Copy::Persisted, d);
-    let x = load(m, from);
-    save(m, to, x);
+    copy_number(m, from, to);
 }
