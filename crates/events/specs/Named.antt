@@ -2,13 +2,16 @@
 use Rattle.std.specs.Prelude.{◌≡◌, refl, ℕ, cond, eqb, Result, Ok, Err}
 use Rattle.std.proofs.Common.{sym, ap, ◌∙◌}
 use Rattle.events.specs.declared.Refusal.{Refusal}
-use Rattle.events.specs.declared.Refusal.TheVariants.{NoWorker, InRecovery, OutsideRecovery, OwnsSomething, NotBuilding, NoneQualifies, NoAddress, TooLarge, FifthWord, AlreadyAdded, NotThere, CountZero, RunsNothing, NoDescriptor}
+use Rattle.events.specs.declared.Refusal.TheVariants.{BadSizes, Short, UnknownKind, NoWorker, InRecovery, OutsideRecovery, OwnsSomething, NotBuilding, NoneQualifies, NoAddress, TooLarge, FifthWord, AlreadyAdded, NotThere, CountZero, RunsNothing, NoDescriptor}
 use Rattle.events.specs.Refusal.{refused}
 
 -- what a table of checks comes to, by the number; any other number refuses nothing
 named : ℕ → Result Unit Refusal
 named n =
-    cond (eqb n 4) (Err NoWorker)
+    cond (eqb n 1) (Err BadSizes)
+    (cond (eqb n 2) (Err Short)
+    (cond (eqb n 3) (Err UnknownKind)
+    (cond (eqb n 4) (Err NoWorker)
     (cond (eqb n 5) (Err InRecovery)
     (cond (eqb n 6) (Err OutsideRecovery)
     (cond (eqb n 7) (Err OwnsSomething)
@@ -21,11 +24,14 @@ named n =
     (cond (eqb n 14) (Err NotThere)
     (cond (eqb n 15) (Err CountZero)
     (cond (eqb n 16) (Err RunsNothing)
-    (cond (eqb n 17) (Err NoDescriptor) (Ok tt))))))))))))))
+    (cond (eqb n 17) (Err NoDescriptor) (Ok tt)))))))))))))))))
 
 named_refused : (r : Result Unit Refusal) → named (refused r) ≡ r
 unfolding named
 named_refused (Ok u) = refl
+named_refused (Err BadSizes) = refl
+named_refused (Err Short) = refl
+named_refused (Err UnknownKind) = refl
 named_refused (Err NoWorker) = refl
 named_refused (Err InRecovery) = refl
 named_refused (Err OutsideRecovery) = refl

@@ -1,9 +1,12 @@
--- The numbers of the refusals 4 to 17 (document 01).
+-- The numbers of the refusals 1 to 17 (document 01).
 use Rattle.std.specs.Prelude.{ℕ}
 use Rattle.events.specs.declared.Refusal.{Refusal}
-use Rattle.events.specs.declared.Refusal.TheVariants.{NoWorker, InRecovery, OutsideRecovery, OwnsSomething, NotBuilding, NoneQualifies, NoAddress, TooLarge, FifthWord, AlreadyAdded, NotThere, CountZero, RunsNothing, NoDescriptor}
+use Rattle.events.specs.declared.Refusal.TheVariants.{BadSizes, Short, UnknownKind, NoWorker, InRecovery, OutsideRecovery, OwnsSomething, NotBuilding, NoneQualifies, NoAddress, TooLarge, FifthWord, AlreadyAdded, NotThere, CountZero, RunsNothing, NoDescriptor}
 
 abbrev pub number : Refusal → ℕ
+number BadSizes = 1
+number Short = 2
+number UnknownKind = 3
 number NoWorker = 4
 number InRecovery = 5
 number OutsideRecovery = 6

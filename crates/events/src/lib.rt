@@ -47,9 +47,12 @@ pub enum Answer {
     Refused(u64),
 }
 
-// The refusals that an event can meet, by their numbers.
+// The refusals of a schedule: 1 to 3 of its records, 4 to 17 of its events, by their numbers.
 #[derive(Clone, Copy, PartialEq, Eq, Debug)]
 pub enum Refusal {
+    BadSizes = 1,
+    Short = 2,
+    UnknownKind = 3,
     NoWorker = 4,
     InRecovery = 5,
     OutsideRecovery = 6,

@@ -91,6 +91,7 @@ pub fn word_cleared(s: Sort) -> Sort
     }
 }
 
+#[tactic(auto, unfolding(crate::specs::Status::status_of))]
 pub fn status_of(x: u64) -> Status
     ensures { result ≡ status_of x }
 {
@@ -136,9 +137,7 @@ pub fn status_cleared(s: Status) -> Status
     ensures { result ≡ status_cleared s }
 {
     match s {
-        Status::Free => Status::Free,
-        Status::Undecided => Status::Undecided,
         Status::Decided(o, _) => Status::Decided(o, false),
-        Status::Bad(x) => Status::Bad(x),
+        other => other,
     }
 }
