@@ -3,7 +3,7 @@ ghost use Rattle.std.specs.Prelude.{◌≡◌};
 ghost use Rattle.machine.specs.Recover as R;
 ghost use Rattle.events.specs.Left.{left};
 
-use crate::work::{look, perform_apart};
+use crate::work::{look, perform};
 use events::{Answer, Refusal};
 use memory::{Copy, Memory, crash_copy, idle_workers, put_recovery};
 use steps::{RecoveryPlace, recovery_plan};
@@ -53,7 +53,7 @@ fn recovery_step(m: &mut Memory, k: u64, d: u64, s: u64) -> Answer
 {
     let seen = look(m, Copy::Persisted, d, s / 2);
     let q = recovery_plan(d, s, seen);
-    perform_apart(m, d, q.effect);
+    perform::<false>(m, d, q.effect);
     let p = place_after(k, d, q.next);
     put_recovery(m, p);
     recovery_answer(p)

@@ -33,9 +33,9 @@ pub(crate) fn look(m: &Memory, c: Copy, d: u64, i: u64) -> Seen
     }
 }
 
-// The one effect of a step of d. Inline, so that the compiler sees which effect each place of an operation has.
-#[inline(always)]
-fn perform(m: &mut Memory, d: u64, e: Effect)
+// The one effect of a step of d. An operation's step has an instance of its own, called from one place, so that the compiler puts it
+// there and sees which effect each place has: with one for all, `tick` is slower.
+pub(crate) fn perform<const OPERATION: bool>(m: &mut Memory, d: u64, e: Effect)
     ensures { m.new ≡ S.performed m.old d e }
 {
     match e {
@@ -46,14 +46,6 @@ fn perform(m: &mut Memory, d: u64, e: Effect)
         Effect::BackStatus => back_status(m, d),
         Effect::BackBody => back_body(m, d),
     }
-}
-
-// The same for a read and for recovery, in a place of its own: inlined there too, it makes `tick` slower.
-#[inline(never)]
-pub(crate) fn perform_apart(m: &mut Memory, d: u64, e: Effect)
-    ensures { m.new ≡ S.performed m.old d e }
-{
-    perform(m, d, e);
 }
 
 fn on_job(x: Worker, d: u64) -> bool
@@ -168,7 +160,7 @@ fn work_step(m: &mut Memory, x: Work) -> Answer
     ensures { left m.new result ≡ S.work_step m.old x.worker x.own x.job x.place }
 {
     let q = plan_at(m, x);
-    perform(m, x.job, q.effect);
+    perform::<true>(m, x.job, q.effect);
     arrive(m, x, q.next)
 }
 
@@ -195,7 +187,7 @@ fn read_answer(n: ReadNext) -> Answer
 fn read_out(m: &mut Memory, w: u64, a: u64, q: Plan<ReadNext>) -> Answer
     ensures { left m.new result ≡ S.read_out m.old w a q }
 {
-    perform_apart(m, 0, q.effect);
+    perform::<false>(m, 0, q.effect);
     put_worker(m, w, read_after(a, q.next));
     read_answer(q.next)
 }
