@@ -1,49 +1,18 @@
-// What differs between two memories, or all of the second.
-use crate::bodies::put_bodies;
-use crate::lines::{Topic, line_of, put_whole, same_line};
+// What has changed in the memory; or all of it, where there is nothing before.
+use crate::lines::{Copies, put_lines};
+use crate::page::Page;
+use crate::values::Body;
 use memory::{Memory, read_sizes};
-
-// A line shows both copies, if either has changed.
-fn put_line(
-    out: &mut [u8],
-    at: usize,
-    old: &Memory,
-    m: &Memory,
-    t: Topic,
-    i: u64,
-    all: bool,
-) -> usize {
-    let x = line_of(m, t, i);
-    if all || !same_line(x, line_of(old, t, i)) {
-        return put_whole(out, at, x);
-    }
-    at
-}
-
-fn put_topic(
-    out: &mut [u8],
-    at: usize,
-    old: &Memory,
-    m: &Memory,
-    t: Topic,
-    n: u64,
-    all: bool,
-) -> usize {
-    let mut to = at;
-    let mut i: u64 = 0;
-    while i < n {
-        to = put_line(out, to, old, m, t, i, all);
-        i += 1;
-    }
-    to
-}
+use std::fmt;
+use steps::{RecoveryPlace, Worker};
+use word::{Sort, Status};
 
 // Only addresses below n, descriptors below k, workers below w have lines.
-pub(crate) fn put_changes(out: &mut [u8], at: usize, old: &Memory, m: &Memory, all: bool) -> usize {
+pub(crate) fn put_changes(page: &mut Page, before: Option<&Memory>, m: &Memory) -> fmt::Result {
     let s = read_sizes(m);
-    let b = put_topic(out, at, old, m, Topic::Word, s.n, all);
-    let c = put_topic(out, b, old, m, Topic::Status, s.k, all);
-    let d = put_bodies(out, c, old, m, s.k, all);
-    let e = put_topic(out, d, old, m, Topic::Worker, s.w, all);
-    put_topic(out, e, old, m, Topic::Recovery, 1, all)
+    put_lines::<Copies<Sort>>(page, before, m, s.n)?;
+    put_lines::<Copies<Status>>(page, before, m, s.k)?;
+    put_lines::<Copies<Body>>(page, before, m, s.k)?;
+    put_lines::<Worker>(page, before, m, s.w)?;
+    put_lines::<RecoveryPlace>(page, before, m, 1)
 }

@@ -2,73 +2,81 @@
 // changed, after the last line the whole memory. docs/TRACE.md has the lines.
 #![tactic(auto)]
 
-mod bodies;
 mod changes;
 mod lines;
-mod output;
-mod parts;
-mod records;
-mod texts;
+mod page;
 mod values;
 mod workers;
 
-ghost use Rattle.std.specs.Prelude.{◌<◌};
-
 use changes::put_changes;
-use feed::{keep, read_on};
+use drive::Player;
 use memory::Memory;
-use output::write_out;
-use play::{Stage, finish};
-use records::{has_begun, play_piece};
+use page::Page;
+use play::{Stage, finish, play};
 
-fn is_over(s: Stage) -> bool {
-    match s {
-        Stage::First => false,
-        Stage::At(_) => false,
-        Stage::Over(_) => true,
+// Whether there was a good setup, and so a memory to show.
+fn has_begun(s: Stage) -> bool {
+    matches!(s, Stage::At(_) | Stage::Over(true))
+}
+
+#[derive(Drop)]
+struct Trace<'a, R> {
+    rt: &'a R,
+    memory: Memory,
+    stage: Stage,
+    page: Page,
+}
+
+impl<R: Print> Trace<'_, R> {
+    // The end of the input, with these bytes left: the last lines have at most 1391 bytes.
+    fn end(&mut self, rest: &[u8]) {
+        let mut lines = [0u8; 2048];
+        let n = finish(&self.memory, self.stage, rest, &mut lines);
+        self.page.put(lines.get(..n).unwrap_or(&lines));
+        if has_begun(self.stage) {
+            let _ = put_changes(&mut self.page, None, &self.memory);
+        }
+        self.flush();
     }
 }
 
-// The whole memory, where there is one.
-fn put_all(out: &mut [u8], at: usize, m: &Memory, begun: bool) -> usize {
-    if begun {
-        return put_changes(out, at, m, m, true);
+impl<R: Print> Player for Trace<'_, R> {
+    // One record: a line of 48 bytes has room for no more. A good setup makes all of the memory new.
+    fn play_on(&mut self, input: &[u8]) -> usize {
+        let old = self.memory;
+        let mut line = [0u8; 48];
+        let r = play(&mut self.memory, self.stage, input, &mut line);
+        self.page.put(&line[..r.written]);
+        let is_setup = self.stage == Stage::First && has_begun(r.stage);
+        let before = if is_setup { None } else { Some(&old) };
+        let _ = put_changes(&mut self.page, before, &self.memory);
+        self.stage = r.stage;
+        if self.page.is_half_full() {
+            self.flush();
+        }
+        r.used
     }
-    at
-}
 
-fn end(rt: &impl Print, m: &Memory, s: Stage, rest: &[u8], out: &mut [u8]) {
-    let b = finish(m, s, rest, out);
-    let c = put_all(out, b, m, has_begun(s));
-    write_out(rt, out, c);
-}
-
-// How often to read on: no more where nothing new was read, or reading is over.
-fn reads_left(s: Stage, new: bool, reads: u64) -> u64
-    requires { 0 < reads }
-    ensures { result < reads }
-{
-    if new && !is_over(s) {
-        return reads - 1;
+    fn stage(&self) -> Stage {
+        self.stage
     }
-    0
+
+    // A write that fails ends reading, and nothing more is written.
+    fn flush(&mut self) {
+        if self.page.write(self.rt).is_err() {
+            self.stage = Stage::Over(false);
+        }
+    }
 }
 
-// Where nothing new was read, what is kept is no whole record, and playing it changes nothing.
 fn main(rt: HostRuntime) {
-    let mut stdin = rt.stdin();
-    let mut m = [0u64; 646];
     let mut input = [0u8; 65536];
-    let mut out = [0u8; 65536];
-    let mut s = Stage::First;
-    let mut have: usize = 0;
-    let mut reads = u64::MAX;
-    while reads > 0 {
-        let more = read_on(&mut stdin, &mut input, have);
-        let r = play_piece(&rt, &mut m, s, &input[0..more], &mut out);
-        s = r.stage;
-        reads = reads_left(s, have < more, reads);
-        have = keep(&mut input, r.used, more);
-    }
-    end(&rt, &m, s, &input[0..have], &mut out);
+    let mut trace = Trace {
+        rt: &rt,
+        memory: [0; 646],
+        stage: Stage::First,
+        page: Page::new(),
+    };
+    let left = trace.play_input(&mut rt.stdin(), &mut input);
+    trace.end(&input[..left]);
 }

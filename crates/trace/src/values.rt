@@ -1,36 +1,75 @@
-// Words and statuses as parts of a line.
-use crate::parts::{Part, plain, with};
-use crate::texts::{
-    BAD, FAILED, FAILED_DIRTY, FREE, NEITHER, PLAIN, PLAIN_DIRTY, POINTER, POINTER_DIRTY,
-    SUCCEEDED, SUCCEEDED_DIRTY, UNDECIDED,
-};
+// What has a cached and a persisted copy: words, statuses and bodies.
+use crate::lines::Kept;
+use crate::page::Page;
+use memory::{Memory, read_count, read_entry, read_status, read_word};
+use std::fmt::Write;
+use std::{array, fmt};
+use steps::Entry;
 use word::{Outcome, Sort, Status};
 
-// One text where the dirty bit is set, the other where it is not.
-fn by_mark(dirty: bool, set: usize, clear: usize) -> usize {
-    if dirty { set } else { clear }
+fn mark(dirty: bool) -> &'static str {
+    if dirty { " dirty" } else { "" }
 }
 
-pub(crate) fn word_part(s: Sort) -> Part {
-    match s {
-        Sort::Plain(v, dirty) => with(by_mark(dirty, PLAIN_DIRTY, PLAIN), v),
-        Sort::Pointer(d, dirty) => with(by_mark(dirty, POINTER_DIRTY, POINTER), d),
-        Sort::Neither(x) => with(NEITHER, x),
+impl Kept for Sort {
+    const NAME: &'static str = "word";
+
+    fn read(m: &Memory, c: memory::Copy, a: u64) -> Self {
+        read_word(m, c, a)
+    }
+
+    fn put(&self, page: &mut Page) -> fmt::Result {
+        match *self {
+            Sort::Plain(v, dirty) => write!(page, " {v}{}", mark(dirty)),
+            Sort::Pointer(d, dirty) => write!(page, " pointer to {d}{}", mark(dirty)),
+            Sort::Neither(x) => write!(page, " neither {x}"),
+        }
     }
 }
 
-fn decided(o: Outcome, dirty: bool) -> Part {
-    match o {
-        Outcome::Succeeded => plain(by_mark(dirty, SUCCEEDED_DIRTY, SUCCEEDED)),
-        Outcome::Failed => plain(by_mark(dirty, FAILED_DIRTY, FAILED)),
+impl Kept for Status {
+    const NAME: &'static str = "status";
+
+    fn read(m: &Memory, c: memory::Copy, d: u64) -> Self {
+        read_status(m, c, d)
+    }
+
+    fn put(&self, page: &mut Page) -> fmt::Result {
+        match *self {
+            Status::Free => write!(page, " Free"),
+            Status::Undecided => write!(page, " Undecided"),
+            Status::Decided(Outcome::Succeeded, dirty) => write!(page, " Succeeded{}", mark(dirty)),
+            Status::Decided(Outcome::Failed, dirty) => write!(page, " Failed{}", mark(dirty)),
+            Status::Bad(x) => write!(page, " bad {x}"),
+        }
     }
 }
 
-pub(crate) fn status_part(s: Status) -> Part {
-    match s {
-        Status::Free => plain(FREE),
-        Status::Undecided => plain(UNDECIDED),
-        Status::Decided(o, dirty) => decided(o, dirty),
-        Status::Bad(x) => with(BAD, x),
+// Every number of a body: an entry past the count counts as a change too.
+#[derive(Clone, Copy, PartialEq)]
+pub(crate) struct Body {
+    count: u64,
+    entries: [Entry; 4],
+}
+
+impl Kept for Body {
+    const NAME: &'static str = "body";
+
+    fn read(m: &Memory, c: memory::Copy, d: u64) -> Self {
+        Body {
+            count: read_count(m, c, d),
+            entries: array::from_fn(|i| read_entry(m, c, d, i as u64)),
+        }
+    }
+
+    // As many entries as the count, at most four.
+    fn put(&self, page: &mut Page) -> fmt::Result {
+        if self.count == 0 {
+            return write!(page, " empty");
+        }
+        for e in &self.entries[..self.count.min(4) as usize] {
+            write!(page, " {}:{}>{}", e.address, e.expected, e.desired)?;
+        }
+        Ok(())
     }
 }
