@@ -1,17 +1,9 @@
-// Files of at most 65,535 bytes, whole; and the lines of one.
+// Files of at most 65,535 bytes, whole.
 ghost use Rattle.std.specs.Prelude.{◌≤◌, length};
 
-use answers::put_text;
 use std::fs;
 use std::io::Read;
 use std::rt::Files;
-
-// What was read of a file: how many bytes, and whether that is all of it.
-#[derive(Clone, Copy)]
-pub(crate) struct Part {
-    pub n: usize,
-    pub whole: bool,
-}
 
 // Reads until the buffer is full, the file ends or a read fails; how many bytes there are then.
 fn read_full(file: &mut impl Read, buf: &mut [u8]) -> usize
@@ -19,60 +11,39 @@ fn read_full(file: &mut impl Read, buf: &mut [u8]) -> usize
 {
     let mut n = 0;
     while n < buf.len() {
-        let got = file.read(&mut buf[n..]).unwrap_or(0);
-        if got == 0 {
-            return n;
+        match file.read(&mut buf[n..]) {
+            Ok(got) if got > 0 => n += got,
+            _ => break,
         }
-        n += got;
     }
     n
 }
 
-// Reads a file to the start of a buffer; one that fills the buffer may be longer, and does not count as whole.
-pub(crate) fn load(rt: &impl Files, path: &[u8], buf: &mut [u8]) -> Part
-    ensures { result.n ≤ length buf.new }
-{
-    let Ok(text) = str::from_utf8(path) else {
-        return Part { n: 0, whole: false };
-    };
-    let Ok(mut file) = fs::open(rt, text) else {
-        return Part { n: 0, whole: false };
-    };
+// Reads a file to the start of a buffer; one that fills the buffer may be longer, and does not count.
+pub(crate) fn load<'a>(rt: &impl Files, path: &[u8], buf: &'a mut [u8]) -> Option<&'a [u8]> {
+    let path = str::from_utf8(path).ok()?;
+    let mut file = fs::open(rt, path).ok()?;
     let n = read_full(&mut file, buf);
-    let whole = n < buf.len();
-    Part { n, whole }
-}
-
-// The path is put into a buffer of as many bytes as no path has: one that fills it opens no file.
-fn load_by(rt: &impl Files, path: &mut [u8], name: &[u8], ending: &[u8], buf: &mut [u8]) -> Part
-    ensures { result.n ≤ length buf.new }
-{
-    let k = put_text(path, 0, name);
-    let n = put_text(path, k, ending);
-    if path.len() < n {
-        return Part { n: 0, whole: false };
+    if n == buf.len() {
+        return None;
     }
-    load(rt, &path[0..n], buf)
+    Some(&buf[..n])
 }
 
-// Reads the file with a name and an ending.
-pub(crate) fn load_part(rt: &impl Files, name: &[u8], ending: &[u8], buf: &mut [u8]) -> Part
-    ensures { result.n ≤ length buf.new }
-{
+// Reads the file with a name and an ending. No path has 4096 bytes.
+pub(crate) fn load_part<'a>(
+    rt: &impl Files,
+    name: &[u8],
+    ending: &[u8],
+    buf: &'a mut [u8],
+) -> Option<&'a [u8]> {
     let mut path = [0u8; 4096];
-    load_by(rt, &mut path, name, ending, buf)
-}
-
-// The length of the first line.
-pub(crate) fn line_length(text: &[u8]) -> usize
-    ensures { result ≤ length text.now }
-{
-    let mut i = 0;
-    while i < text.len() {
-        if text[i] == b'\n' {
-            return i;
-        }
-        i += 1;
+    let n = name.len();
+    let end = n + ending.len();
+    if end > path.len() {
+        return None;
     }
-    i
+    path[..n].copy_from_slice(name);
+    path[n..end].copy_from_slice(ending);
+    load(rt, &path[..end], buf)
 }

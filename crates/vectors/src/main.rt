@@ -6,92 +6,59 @@ mod compare;
 mod files;
 mod output;
 
-ghost use Rattle.std.specs.Prelude.{◌≤◌};
-
 use compare::report;
-use files::{line_length, load, load_part};
+use files::{load, load_part};
 use output::whole_output;
 use std::rt::Files;
 
-// A name, and what is wrong with it; false.
+const MISSING: &str = "is missing, or has more than 65535 bytes";
+
+// A name, and which of its files cannot be read; false.
 fn missing(rt: &impl Print, name: &[u8], what: &str) -> bool {
     let _ = rt.write_all(name);
-    let _ = println!(rt; ": {what}");
+    let _ = println!(rt; ": its {what} {MISSING}");
     false
 }
 
 // Whether a schedule gives what is expected; and its line.
-fn held<R: Files + Print>(
-    rt: &R,
-    name: &[u8],
-    schedule: &mut [u8],
-    wanted: &mut [u8],
-    got: &mut [u8],
-) -> bool {
-    let s = load_part(rt, name, b".bytes", schedule);
-    if !s.whole {
-        return missing(
-            rt,
-            name,
-            "its schedule is missing, or has more than 65535 bytes",
-        );
-    }
-    let w = load_part(rt, name, b".out", wanted);
-    if !w.whole {
-        return missing(
-            rt,
-            name,
-            "its output is missing, or has more than 65535 bytes",
-        );
-    }
-    let used = s.n;
-    let expected = w.n;
-    let n = whole_output(&schedule[0..used], got);
-    report(rt, name, &got[0..n], &wanted[0..expected])
-}
-
-// 1 where it does, and else 0.
-fn vector<R: Files + Print>(rt: &R, name: &[u8]) -> u64
-    ensures { result ≤ 1 }
-{
+fn is_same<R: Files + Print>(rt: &R, name: &[u8]) -> bool {
     let mut schedule = [0u8; 65536];
     let mut wanted = [0u8; 65536];
     let mut got = [0u8; 65536];
-    if held(rt, name, &mut schedule, &mut wanted, &mut got) {
-        return 1;
-    }
-    0
+    let Some(schedule) = load_part(rt, name, b".bytes", &mut schedule) else {
+        return missing(rt, name, "schedule");
+    };
+    let Some(wanted) = load_part(rt, name, b".out", &mut wanted) else {
+        return missing(rt, name, "output");
+    };
+    report(rt, name, whole_output(schedule, &mut got), wanted)
 }
 
-fn counts(rt: &impl Print, same: u64, all: u64) {
-    let _ = println!(rt; "{same} of {all} the same");
+fn is_newline(b: &u8) -> bool {
+    *b == b'\n'
+}
+
+// The line without its newline; the last line need not have one.
+fn name_of(line: &[u8]) -> &[u8] {
+    line.strip_suffix(b"\n").unwrap_or(line)
 }
 
 // Every name of the list.
 fn vectors<R: Files + Print>(rt: &R, names: &[u8]) {
-    let mut same = 0;
-    let mut all = 0;
-    let mut at = 0;
-    while at < names.len() {
-        let end = at + line_length(&names[at..]);
-        same += vector(rt, &names[at..end]);
-        all += 1;
-        at = end + 1;
-    }
-    counts(rt, same, all);
-}
-
-fn run<R: Files + Print>(rt: &R, names: &mut [u8]) {
-    let r = load(rt, b"names", names);
-    let n = r.n;
-    if r.whole {
-        vectors(rt, &names[0..n]);
-    } else {
-        let _ = println!(rt; "the file names is missing, or has more than 65535 bytes");
-    }
+    let all = names.split_inclusive(is_newline).count();
+    let same = names
+        .split_inclusive(is_newline)
+        .filter(|line| is_same(rt, name_of(line)))
+        .count();
+    let _ = println!(rt; "{same} of {all} the same");
 }
 
 fn main(rt: HostRuntime) {
     let mut names = [0u8; 65536];
-    run(&rt, &mut names);
+    match load(&rt, b"names", &mut names) {
+        Some(names) => vectors(&rt, names),
+        None => {
+            let _ = println!(rt; "the file names {MISSING}");
+        }
+    }
 }

@@ -1,58 +1,53 @@
 // The whole output of a whole schedule, in a buffer.
 ghost use Rattle.std.specs.Prelude.{◌≤◌, length};
 
+use drive::Player;
 use memory::Memory;
-use play::{Progress, Stage, finish, play};
+use play::{Stage, finish, play};
 
-// Plays the next records behind what is written already.
-fn play_on(m: &mut Memory, s: Stage, input: &[u8], at: usize, out: &mut [u8], to: usize) -> Progress
-    requires { (at ≤ length input.now) × (to ≤ length out.old) }
-    ensures { (result.used ≤ length input.now) × (result.written ≤ length out.old) }
-{
-    let r = play(m, s, &input[at..], &mut out[to..]);
-    let stage = r.stage;
-    Progress {
+#[derive(Drop)]
+struct Output<'a> {
+    memory: Memory,
+    stage: Stage,
+    bytes: &'a mut [u8],
+    written: usize,
+    ghost inside: { written ≤ length bytes.now },
+}
+
+impl Player for Output<'_> {
+    // Behind what is written already, as long as there is room.
+    fn play_on(&mut self, input: &[u8]) -> usize {
+        let r = play(
+            &mut self.memory,
+            self.stage,
+            input,
+            &mut self.bytes[self.written..],
+        );
+        self.stage = r.stage;
+        self.written += r.written;
+        r.used
+    }
+
+    fn stage(&self) -> Stage {
+        self.stage
+    }
+}
+
+pub(crate) fn whole_output<'a>(input: &[u8], out: &'a mut [u8]) -> &'a [u8] {
+    let mut output = Output {
+        memory: [0; 646],
+        stage: Stage::First,
+        bytes: out,
+        written: 0,
+    };
+    let used = output.play_all(input);
+    let Output {
+        memory,
         stage,
-        used: at + r.used,
-        written: to + r.written,
-    }
-}
-
-// Plays every whole record that there is room for the line of.
-fn play_records(m: &mut Memory, input: &[u8], out: &mut [u8]) -> Progress
-    ensures { (result.used ≤ length input.now) × (result.written ≤ length out.old) }
-{
-    let mut s = Stage::First;
-    let mut at = 0;
-    let mut to = 0;
-    while at < input.len() {
-        let r = play_on(m, s, input, at, out, to);
-        if r.used <= at {
-            return r;
-        }
-        s = r.stage;
-        at = r.used;
-        to = r.written;
-    }
-    Progress {
-        stage: s,
-        used: at,
-        written: to,
-    }
-}
-
-// How many bytes the output has.
-pub(crate) fn whole_output(input: &[u8], out: &mut [u8]) -> usize
-    ensures { result ≤ length out.new }
-{
-    let mut m = [0u64; 646];
-    let r = play_records(&mut m, input, out);
-    let used = r.used;
-    let to = r.written;
-    let stage = r.stage;
-    let n = finish(&m, stage, &input[used..], &mut out[to..]);
-    if out.len() - to < n {
-        return out.len();
-    }
-    to + n
+        bytes,
+        written,
+    } = output;
+    let n = finish(&memory, stage, &input[used..], &mut bytes[written..]);
+    let end = written + n.min(bytes.len() - written);
+    &bytes[..end]
 }
