@@ -12,7 +12,7 @@ pub(crate) trait Line: Copy + PartialEq {
 }
 
 // Something that has a cached and a persisted copy.
-pub(crate) trait Kept: Copy + PartialEq {
+pub(crate) trait Copied: Copy + PartialEq {
     const NAME: &'static str;
 
     fn read(m: &Memory, c: memory::Copy, i: u64) -> Self;
@@ -27,7 +27,7 @@ pub(crate) struct Copies<T> {
 }
 
 // A line shows both copies, if either has changed.
-impl<T: Kept> Line for Copies<T> {
+impl<T: Copied> Line for Copies<T> {
     fn read(m: &Memory, i: u64) -> Self {
         Copies {
             cached: T::read(m, memory::Copy::Cached, i),

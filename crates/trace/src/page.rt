@@ -1,5 +1,6 @@
 // The text that is not written yet.
 ghost use Rattle.std.specs.Prelude.{◌≤◌};
+ghost use Rattle.trace.specs.declared.page.TheConstants.{SIZE};
 
 use std::{fmt, io};
 
@@ -13,7 +14,7 @@ const HALF: usize = 32768;
 pub(crate) struct Page {
     bytes: [u8; SIZE],
     len: usize,
-    ghost inside: { len ≤ 65536 },
+    ghost inside: { len ≤ SIZE },
 }
 
 impl Page {

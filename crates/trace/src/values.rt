@@ -1,5 +1,5 @@
 // What has a cached and a persisted copy: words, statuses and bodies.
-use crate::lines::Kept;
+use crate::lines::Copied;
 use crate::page::Page;
 use memory::{Memory, read_count, read_entry, read_status, read_word};
 use std::fmt::Write;
@@ -11,7 +11,7 @@ fn mark(dirty: bool) -> &'static str {
     if dirty { " dirty" } else { "" }
 }
 
-impl Kept for Sort {
+impl Copied for Sort {
     const NAME: &'static str = "word";
 
     fn read(m: &Memory, c: memory::Copy, a: u64) -> Self {
@@ -27,7 +27,7 @@ impl Kept for Sort {
     }
 }
 
-impl Kept for Status {
+impl Copied for Status {
     const NAME: &'static str = "status";
 
     fn read(m: &Memory, c: memory::Copy, d: u64) -> Self {
@@ -52,7 +52,7 @@ pub(crate) struct Body {
     entries: [Entry; 4],
 }
 
-impl Kept for Body {
+impl Copied for Body {
     const NAME: &'static str = "body";
 
     fn read(m: &Memory, c: memory::Copy, d: u64) -> Self {
