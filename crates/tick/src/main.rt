@@ -17,9 +17,7 @@ impl<R: Print> Tick<'_, R> {
     // The end of the input, with these bytes left.
     fn end(&mut self, rest: &[u8]) {
         let n = finish(&self.memory, self.stage, rest, &mut self.out);
-        if let Some(lines) = self.out.get(..n) {
-            let _ = self.rt.write_all(lines);
-        }
+        let _ = self.rt.write_all(self.out.get(..n).unwrap_or(&self.out));
     }
 }
 

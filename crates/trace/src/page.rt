@@ -45,6 +45,7 @@ impl Page {
     }
 }
 
+// A page refuses no text.
 impl fmt::Write for Page {
     fn write_str(&mut self, s: &str) -> fmt::Result {
         self.put(s.as_bytes());
