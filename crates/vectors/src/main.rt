@@ -43,7 +43,7 @@ fn name_of(line: &[u8]) -> &[u8] {
     line.strip_suffix(b"\n").unwrap_or(line)
 }
 
-// Every name of the list.
+// Every name of the list; asking whether one is the same writes its line.
 fn vectors<R: Files + Print>(rt: &R, names: &[u8]) {
     let all = names.split_inclusive(is_newline).count();
     let same = names
