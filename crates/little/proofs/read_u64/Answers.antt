@@ -1,12 +1,11 @@
-use Rattle.little.proofs.CodeLaws.{read_short, read_past, read_inside}
 use Rattle.std.proofs.Common.{rules}
+use Rattle.little.proofs.CodeLaws.{none_there, read}
 use Rattle.little.proofs.read_u64.Goals as goal
 
 pub returns-then-s-lt8 : goal.returns-then-s-lt8
-returns-then-s-lt8 c = search (rules, read_short)
-
-pub returns-then-s-at : goal.returns-then-s-at
-returns-then-s-at c = search (rules, read_past)
+returns-then-s-lt8 c = search (rules, none_there)
 
 pub returns : goal.returns
-returns c = search (rules, read_inside)
+returns c =
+    let t = rw c.unwrap.ensures at c.try_into.ensures in
+    read _ _ _ c.if-s-lt8.false c.if-s-at.false _ t.1.same c.from_le_bytes.ensures

@@ -1,12 +1,9 @@
-use Rattle.little.proofs.CodeLaws.{write_short, write_past, write_inside}
-use Rattle.std.proofs.Common.{rules}
+use Rattle.std.proofs.Common.{rules, ◌∙◌}
+use Rattle.little.proofs.CodeLaws.{none_stored, stored}
 use Rattle.little.proofs.write_u64.Goals as goal
 
 pub returns-then-s-lt8 : goal.returns-then-s-lt8
-returns-then-s-lt8 c = search (rules, write_short)
-
-pub returns-then-s-at : goal.returns-then-s-at
-returns-then-s-at c = search (rules, write_past)
+returns-then-s-lt8 c = search (rules, none_stored)
 
 pub returns : goal.returns
-returns c = search (rules, write_inside)
+returns c = stored _ _ _ c.if-s-lt8.false c.if-s-at.false _ (c.copy_from_slice.ensures.after ∙ c.to_le_bytes.ensures)
