@@ -1,14 +1,11 @@
 -- `keep`: one law for each answer.
-use Rattle.std.specs.Prelude.{◌≡◌, ℕ, suc, ◌+◌, ◌-◌, ◌<◌, ◌≤◌, List, ◌++◌, length, get_or, take, set}
-use Rattle.std.proofs.Math.Path.{refl}
-use Rattle.std.proofs.Common.{arith}
-use Rattle.std.proofs.lemmas.Bool.{lt-ltb, le-ltb, lt-leb, le-leb}
-use Rattle.std.proofs.lemmas.List.{take_at, length-take-le}
+use Rattle.std.specs.Prelude.{◌≡◌, ℕ, ◌+◌, ◌-◌, ◌<◌, ◌≤◌, List, length, get_or}
+use Rattle.std.specs.List.{CopiedTo, SameFrom}
+use Rattle.std.proofs.Common.{arith, sym, ◌∙◌, ext_get_or, inl, inr}
+use native.Mathlib.Numerals.{unary_clauses}
+use Rattle.std.proofs.lemmas.Bool.{lt-ltb, le-ltb, lt-leb, le-leb, cases_lt}
 use Rattle.feed.specs.Feed.{kept, moved, kept_of}
-
--- what stands before a part that was lent
-pub front_kept : (s q : List ℕ) (have : ℕ) → have < length s → take have (take have s ++ q) ≡ take have s
-front_kept s q have h = take_at (take have s) q have (length-take-le have s (omega arith))
+use Rattle.feed.specs.FeedLaws.{moved_length, moved_behind, moved_front}
 
 pub keep_outside : (s : List ℕ) (from to : ℕ) → length s < to → kept s 0 ≡ kept_of s from to
 unfolding kept_of
@@ -18,14 +15,17 @@ pub keep_none : (s : List ℕ) (from to : ℕ) → to ≤ length s → to ≤ fr
 unfolding kept_of
 keep_none s from to h l = rw (le-ltb _ _ h, le-leb _ _ l)
 
-pub keep_some : (s x : List ℕ) (from to i : ℕ) → to ≤ length s → from < to → x ≡ moved s from i → i ≤ to - from → to - from ≤ i → kept x (to - from) ≡ kept_of s from to
+-- a copy of n bytes to the start is those bytes moved one after the other
+copied : (s x : List ℕ) (from n : ℕ) → from + n ≤ length s → length x ≡ length s → CopiedTo s x from 0 n → SameFrom s x (0 + n) → x ≡ moved s from n
+copied s x from n h l f b = ext_get_or 0 x (moved s from n) (l ∙ sym (moved_length s from n)) each
+  where
+    each : (i : ℕ) → i < length x → get_or x i 0 ≡ get_or (moved s from n) i 0
+    each i k = elim (cases_lt i n) [
+      | inl a ↦ simp unary_clauses at (f i 0 (omega arith) (omega arith)) ∙ sym (moved_front s from n i h a)
+      | inr a ↦ b i 0 (omega arith) ∙ sym (moved_behind s from n i a)
+    ]
+
+pub keep_some : (s x : List ℕ) (from to : ℕ) → to ≤ length s → from < to → length x ≡ length s → CopiedTo s x from 0 (to - from) → SameFrom s x (0 + (to - from))
+    → kept x (to - from) ≡ kept_of s from to
 unfolding kept_of
-keep_some s x from to i h l e f g = let z : i ≡ to - from = omega arith in rw (le-ltb _ _ h, lt-leb _ _ l, ← z, ← e)
-
-pub moved_next : (s x : List ℕ) (from i : ℕ) → x ≡ moved s from i → set x i (get_or x (from + i) 0) ≡ moved s from (i + 1)
-unfolding moved
-moved_next s x from i e = let z : i + 1 ≡ suc i = omega arith in rw (z, e)
-
-pub moved_none : (s : List ℕ) (from : ℕ) → s ≡ moved s from 0
-unfolding moved
-moved_none s from = refl
+keep_some s x from to h l k f b = rw (le-ltb _ _ h, lt-leb _ _ l, copied s x from (to - from) (omega arith) k f b)

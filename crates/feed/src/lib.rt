@@ -16,11 +16,7 @@ pub fn read_on(input: &mut impl Read, buf: &mut [u8], have: usize) -> usize
     if buf.len() <= have {
         return buf.len();
     }
-    let part = &mut buf[have..];
-    match input.read(part) {
-        Ok(got) => have + got,
-        Err(_) => have,
-    }
+    have + input.read(&mut buf[have..]).unwrap_or(0)
 }
 
 // The bytes from a place up to another go to the start; how many there are.
@@ -28,17 +24,9 @@ pub fn keep(buf: &mut [u8], from: usize, to: usize) -> usize
     ensures moved { kept buf.new result ≡ kept_of buf.old from to }
     ensures inside { result ≤ length buf.old }
 {
-    if buf.len() < to {
+    if buf.len() < to || to <= from {
         return 0;
     }
-    if to <= from {
-        return 0;
-    }
-    let n = to - from;
-    let mut i = 0;
-    while i < n {
-        buf[i] = buf[from + i];
-        i += 1;
-    }
-    n
+    buf.copy_within(from..to, 0);
+    to - from
 }
