@@ -4,7 +4,7 @@
 ghost use Rattle.std.specs.Prelude.{◌≡◌, ◌≤◌};
 ghost use Rattle.events.specs.Event.{kind_of};
 ghost use Rattle.events.specs.Refusal.{first_of};
-ghost use Rattle.schedule.specs.Record.{known, length_of, verdict_of, head_of, refusal_of, head_checks, body_of};
+ghost use Rattle.schedule.specs.Record.{known, length_of, head_of, refusal_of, head_checks, body_of};
 ghost use Rattle.schedule.specs.Content.{byte, event_of, setup_of};
 
 use events::Event;
@@ -13,8 +13,9 @@ use memory::Sizes;
 
 // What stands at a place of the input: a record, with its kind and its body's length; a kind that is unknown there
 // (refusal 3); a record that the input ends inside of (refusal 2); nothing more.
-#[derive(Clone, Copy)]
+#[derive(Clone, Copy, PartialEq, Eq, Debug)]
 pub enum Head {
+    // The kind is a byte, and no enum: `body_at` and `event_of` take any byte.
     Record(u8, usize),
     Unknown,
     Short,
@@ -28,57 +29,40 @@ fn length_of(kind: u8) -> usize
 {
     match kind {
         0x00 => 3,
-        0x01 => 1,
         0x02 => 18,
-        0x03 => 2,
-        0x04 => 1,
-        0x05 => 1,
-        0x06 => 2,
-        0x07 => 1,
-        0x08 => 1,
-        0x09 => 1,
-        0x0A => 1,
+        0x03 | 0x06 => 2,
+        0x01 | 0x04 | 0x05 | 0x07..=0x0A => 1,
         _ => 0,
     }
 }
 
+// `started`: the setup has been read.
+#[tactic(auto, unfolding(crate::specs::Record::known))]
 fn is_known(kind: u8, started: bool) -> bool
     ensures { result ≡ known started kind }
 {
-    if !started {
-        return kind == 0x00;
+    if started {
+        matches!(kind, 0x01..=0x0C)
+    } else {
+        kind == 0x00
     }
-    if kind < 0x01 {
-        return false;
-    }
-    kind <= 0x0C
 }
 
 // Refusal 3 comes before 2: an unknown kind is unknown even where the input ends inside its body.
-fn verdict(right: bool, whole: bool, kind: u8, n: usize) -> Head
-    ensures { result ≡ verdict_of right whole kind n }
-{
-    if !right {
-        return Head::Unknown;
-    }
-    if !whole {
-        return Head::Short;
-    }
-    Head::Record(kind, n)
-}
-
-// `started`: the setup has been read.
 pub fn head_at(s: &[u8], at: usize, started: bool) -> Head
     ensures { (result ≡ head_of started s.now at) × (refusal_of result ≡ first_of (head_checks started s.now at)) }
 {
-    if s.len() <= at {
+    let Some(&kind) = s.get(at) else {
         return Head::End;
-    }
-    let kind = s[at];
+    };
     let n = length_of(kind);
-    let right = is_known(kind, started);
-    let whole = n <= s.len() - (at + 1);
-    verdict(right, whole, kind, n)
+    if !is_known(kind, started) {
+        return Head::Unknown;
+    }
+    if s.len() - (at + 1) < n {
+        return Head::Short;
+    }
+    Head::Record(kind, n)
 }
 
 // The body of a record: the caller's own bytes, as many as the kind fixes; none where they are not all there.
@@ -86,35 +70,26 @@ pub fn body_at(s: &[u8], at: usize, kind: u8) -> &[u8]
     ensures { result.now ≡ body_of s.now at kind }
 {
     let n = length_of(kind);
-    if s.len() <= at {
-        return &s[0..0];
+    if s.len() <= at || s.len() - (at + 1) < n {
+        return &[];
     }
     let from = at + 1;
-    if s.len() - from < n {
-        return &s[0..0];
-    }
     &s[from..from + n]
 }
 
-fn wide(x: u8) -> u64
-    ensures { result ≡ x }
-{
-    x as u64
-}
-
+// A number of one byte; 0 past the end.
 fn byte_at(body: &[u8], i: usize) -> u64
     ensures { result ≡ byte body.now i }
 {
-    if i < body.len() {
-        return wide(body[i]);
-    }
-    0
+    body.get(i).map_or(0, |b| u64::from(*b))
 }
 
-// Any kind that is none of 01 to 0B is taken for 0C, so that the last case needs no test.
+// The event of a record of kind 01 to 0C: an event of that kind. Any kind that is none of 01 to 0B is taken for 0C, so that the
+// last case needs no test.
 #[tactic(auto, unfolding(crate::specs::Content::event_of))]
-fn event_in(kind: u8, body: &[u8]) -> Event
-    ensures { result ≡ event_of kind body.now }
+pub fn event_of(kind: u8, body: &[u8]) -> Event
+    ensures as_defined { result ≡ event_of kind body.now }
+    ensures of_its_kind { 0x01 ≤ kind → kind ≤ 0x0C → kind_of result ≡ kind }
 {
     let a = byte_at(body, 0);
     let b = byte_at(body, 1);
@@ -132,14 +107,6 @@ fn event_in(kind: u8, body: &[u8]) -> Event
         0x0B => Event::Crash,
         _ => Event::Recover,
     }
-}
-
-// The event of a record of kind 01 to 0C: an event of that kind.
-pub fn event_of(kind: u8, body: &[u8]) -> Event
-    ensures as_defined { result ≡ event_of kind body.now }
-    ensures of_its_kind { 0x01 ≤ kind → kind ≤ 0x0C → kind_of result ≡ kind }
-{
-    event_in(kind, body)
 }
 
 // n, k, w of a record of kind 00.
