@@ -4,7 +4,7 @@ use mathlib.Core.List.{List, [], ◌∷◌, ◌++◌}
 use Prim.Native.Nat.{ℕ, suc, ◌+◌, ◌/◌, ◌%◌, ◌^◌, ◌<◌, ◌≤◌}
 use native.Mathlib.Omega.{arith}
 use lib.ListN.{length, take, get_or, set}
-use lib.Seq.{take-suc, take_all}
+use lib.Seq.{take-suc}
 use borrow.Author.Tests.{lt-ltb, le-ltb}
 use Rattle.answers.specs.Decimal.{decimal_of, places_of}
 use Rattle.answers.specs.DecimalLaws.{decimal_one, decimal_next, decimal_places}
@@ -24,6 +24,9 @@ byte_full o at b h = simp (le-ltb _ _ h)
 pub join : (o x y : List ℕ) (at r s : ℕ) (xs ys : List ℕ) → filled x r ≡ put_of o at xs → filled y s ≡ put_of x r ys → filled y s ≡ put_of o at (xs ++ ys)
 join o x y at r s xs ys e f = rw (put_append o at xs ys, ← e) f
 
+pub joined : (o x y : List ℕ) (at r s : ℕ) (xs ys zs : List ℕ) → filled x r ≡ put_of o at xs → filled y s ≡ put_of x r ys → zs ≡ xs ++ ys → filled y s ≡ put_of o at zs
+joined o x y at r s xs ys zs e f g = rw g (join o x y at r s xs ys e f)
+
 -- the loop over a text
 pub text_none : (o t : List ℕ) (at : ℕ) → filled o at ≡ put_of o at (take 0 t)
 unfolding put_of
@@ -34,9 +37,6 @@ pub text_next : (o x y t : List ℕ) (at r s i : ℕ) → filled x r ≡ put_of 
 text_next o x y t at r s i e h f =
     let z : i + 1 ≡ suc i = omega arith in
     rw (z, take-suc t i 0 h) (join o x y at r s (take i t) (get_or t i 0 ∷ []) e f)
-
-pub text_end : (o x t : List ℕ) (at r i : ℕ) → filled x r ≡ put_of o at (take i t) → length t ≤ i → filled x r ≡ put_of o at t
-text_end o x t at r i e h = rw (take_all i t h) at e
 
 -- The last digits of n, one after the other: x is the buffer and r the place after the first of them, p its byte; y, s and q those of the next; and so on.
 module _ (o : List ℕ) (at n : ℕ) where

@@ -4,7 +4,7 @@ ghost use Rattle.answers.specs.Decimal.{decimal_of};
 ghost use Rattle.answers.specs.Put.{filled, put_of};
 ghost use Rattle.answers.specs.Line.{spaced, said, line_of, values_below, words_shown, last_line};
 
-use crate::text::{put_byte, put_count, put_decimal};
+use crate::text::{put_byte, put_count, put_decimal, put_text};
 use events::Answer;
 use memory::{Memory, read_sizes, value_of};
 use word::Outcome;
@@ -25,46 +25,30 @@ fn put_number(out: &mut [u8], at: usize, n: u64) -> usize
     put_decimal(out, to, n)
 }
 
-// A space and S or F.
-fn put_outcome(out: &mut [u8], at: usize, o: Outcome) -> usize
-    ensures { filled out.new result ≡ put_of out.old at (said (Answer.Answered o)) }
+// A space and a letter, a space and a number.
+fn put_figure(out: &mut [u8], at: usize, b: u8, n: u64) -> usize
+    ensures { filled out.new result ≡ put_of out.old at (32 ∷ b ∷ 32 ∷ decimal_of n) }
 {
-    match o {
-        Outcome::Succeeded => put_letter(out, at, b'S'),
-        Outcome::Failed => put_letter(out, at, b'F'),
-    }
+    let to = put_letter(out, at, b);
+    put_number(out, to, n)
 }
 
-// A space and the answer: OK, D d, M, H e, W, S or F, V v, A, Z, R r.
+// A space and the answer.
 fn put_answer(out: &mut [u8], at: usize, a: Answer) -> usize
     ensures { filled out.new result ≡ put_of out.old at (said a) }
 {
     match a {
-        Answer::Ok => {
-            let b = put_letter(out, at, b'O');
-            put_byte(out, b, b'K')
-        }
-        Answer::Opened(d) => {
-            let b = put_letter(out, at, b'D');
-            put_number(out, b, d)
-        }
+        Answer::Ok => put_text(out, at, b" OK"),
+        Answer::Opened(d) => put_figure(out, at, b'D', d),
         Answer::Moved => put_letter(out, at, b'M'),
-        Answer::Helping(e) => {
-            let b = put_letter(out, at, b'H');
-            put_number(out, b, e)
-        }
+        Answer::Helping(e) => put_figure(out, at, b'H', e),
         Answer::Waits => put_letter(out, at, b'W'),
-        Answer::Answered(o) => put_outcome(out, at, o),
-        Answer::Shows(v) => {
-            let b = put_letter(out, at, b'V');
-            put_number(out, b, v)
-        }
+        Answer::Answered(Outcome::Succeeded) => put_letter(out, at, b'S'),
+        Answer::Answered(Outcome::Failed) => put_letter(out, at, b'F'),
+        Answer::Shows(v) => put_figure(out, at, b'V', v),
         Answer::Recovering => put_letter(out, at, b'A'),
         Answer::Recovered => put_letter(out, at, b'Z'),
-        Answer::Refused(r) => {
-            let b = put_letter(out, at, b'R');
-            put_number(out, b, r)
-        }
+        Answer::Refused(r) => put_figure(out, at, b'R', r),
     }
 }
 
@@ -81,9 +65,7 @@ pub fn put_line(out: &mut [u8], at: usize, number: u64, a: Answer) -> usize
 fn words_shown(m: &Memory) -> u64
     ensures { result ≡ words_shown m.now }
 {
-    let s = read_sizes(m);
-    let n = s.n;
-    if n < 64 { n } else { 64 }
+    read_sizes(m).n.min(64)
 }
 
 // The values of the words at the addresses below n, a space before each.
@@ -91,10 +73,8 @@ fn put_values(out: &mut [u8], at: usize, m: &Memory, n: u64) -> usize
     ensures { filled out.new result ≡ put_of out.old at (spaced (values_below m.now n)) }
 {
     let mut to = at;
-    let mut a: u64 = 0;
-    while a < n {
+    for a in 0..n {
         to = put_number(out, to, value_of(m, a));
-        a += 1;
     }
     to
 }

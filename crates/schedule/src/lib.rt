@@ -22,18 +22,15 @@ pub enum Head {
     End,
 }
 
-// The length of a body. 0B and 0C have none, and a kind that there is not has none.
+// The length of a body of each kind, 00 to 0C: a number has one byte there, but expected and desired of 02 have eight.
+const LENGTHS: [usize; 13] = [3, 1, 18, 2, 1, 1, 2, 1, 1, 1, 1, 0, 0];
+
+// A kind that there is not has no body.
 #[tactic(auto, unfolding(crate::specs::Record::length_of))]
 fn length_of(kind: u8) -> usize
     ensures { result ≡ length_of kind }
 {
-    match kind {
-        0x00 => 3,
-        0x02 => 18,
-        0x03 | 0x06 => 2,
-        0x01 | 0x04 | 0x05 | 0x07..=0x0A => 1,
-        _ => 0,
-    }
+    LENGTHS.get(usize::from(kind)).copied().unwrap_or(0)
 }
 
 // `started`: the setup has been read.

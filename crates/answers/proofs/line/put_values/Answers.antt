@@ -1,11 +1,9 @@
-use mathlib.Core.Path.{refl}
-use Rattle.std.proofs.Common.{arith}
-use Rattle.answers.proofs.LineLaws.{values_none, values_next}
 use Rattle.std.proofs.Common.{rules}
+use Rattle.answers.proofs.LineLaws.{values_none, values_next}
 use Rattle.answers.proofs.line.put_values.Goals as goal
 
 pub loop-a-init : goal.loop-a-init
-loop-a-init c = (search (rules, values_none), (omega arith, refl))
+loop-a-init c = search (rules, values_none)
 
 pub loop-a-preserved : goal.loop-a-preserved
-loop-a-preserved c = (search (rules, values_next), (omega arith, search rules))
+loop-a-preserved c = search (rules, values_next)

@@ -1,11 +1,9 @@
-use mathlib.Core.Path.{refl}
-use Rattle.std.proofs.Common.{arith}
-use Rattle.answers.proofs.TextLaws.{text_none, text_next}
 use Rattle.std.proofs.Common.{rules}
+use Rattle.answers.proofs.TextLaws.{text_none, text_next}
 use Rattle.answers.proofs.text.put_text.Goals as goal
 
-pub loop-i-init : goal.loop-i-init
-loop-i-init c = (search (rules, text_none), (omega arith, refl))
+pub loop-b-init : goal.loop-b-init
+loop-b-init c = search (rules, text_none)
 
-pub loop-i-preserved : goal.loop-i-preserved
-loop-i-preserved c = (search (rules, text_next), (omega arith, search rules))
+pub loop-b-preserved : goal.loop-b-preserved
+loop-b-preserved c = search (rules, text_next)
