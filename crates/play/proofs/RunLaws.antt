@@ -2,6 +2,7 @@
 use mathlib.Core.Path.{◌≡◌, refl, sym, ap, ◌∙◌}
 use mathlib.Core.Bool.{Bool, true, false}
 use mathlib.Core.List.{List, [], ◌∷◌, append-nil}
+use Rattle.std.proofs.Common.{◌⊎◌, inl, inr}
 use Prim.Native.Nat.{ℕ, suc, ◌+◌, ◌-◌, ◌<◌, ◌≤◌}
 use native.Mathlib.Omega.{arith}
 use lib.ListN.{length, drop}
@@ -20,7 +21,7 @@ use Rattle.play.specs.declared.Stage.{Stage}
 use Rattle.play.specs.declared.Stage.TheVariants.{First, At, Over}
 use Rattle.play.specs.declared.Mark.{Mark}
 use Rattle.play.specs.declared.Progress.{Progress}
-use Rattle.play.specs.Tick.{refused_turn, record_turn, play_of, last_if, closing}
+use Rattle.play.specs.Tick.{refused_turn, record_turn, play_of, closing}
 use Rattle.play.specs.Done.{Done, done, stayed, done_from, turns_for, Marked, marked, marked_by, once_at, played_into}
 use Rattle.play.specs.Split.{played_on, play_split, play_stuck}
 
@@ -34,11 +35,11 @@ module _ (m : Block) (s : Stage) (started : Bool) (input : List ℕ) (at : ℕ) 
 
   pub turn_record : (kind n : ℕ) (body : List ℕ) (y : Block) (mark : Mark) (x : List ℕ) → h ≡ Record kind n → body ≡ body_of input at kind
       → marked y mark x ≡ marked_by out to (record_turn m s kind body)
-      → done y (record { stage = mark.stage; used = at + 1 + n; written = mark.to }) x ≡ done_from out to at (once_at m s started (drop at input))
+      → done y (record { stage = mark.stage; used = at + (1 + n); written = mark.to }) x ≡ done_from out to at (once_at m s started (drop at input))
   turn_record kind n body y mark x f g k =
       let t = record_turn m s kind body in
-      let z : at + (suc n + 0) ≡ at + 1 + n = omega arith in
-      rw (front, f, ← body_drop input at kind, ← g, append-nil t.line, z) (ap (λ (r : Marked). record { memory = r.memory; stage = r.stage; used = at + 1 + n; output = r.output }) k)
+      let z : at + (suc n + 0) ≡ at + (1 + n) = omega arith in
+      rw (front, f, ← body_drop input at kind, ← g, append-nil t.line, z) (ap (λ (r : Marked). record { memory = r.memory; stage = r.stage; used = at + (1 + n); output = r.output }) k)
 
   pub turn_unknown : (mark : Mark) (x : List ℕ) → h ≡ Unknown → marked m mark x ≡ marked_by out to (refused_turn m s 3)
       → done m (record { stage = mark.stage; used = at; written = mark.to }) x ≡ done_from out to at (once_at m s started (drop at input))
@@ -47,13 +48,10 @@ module _ (m : Block) (s : Stage) (started : Bool) (input : List ℕ) (at : ℕ) 
       let z : at + (0 + 0) ≡ at = omega arith in
       rw (front, f, append-nil t.line, z) (ap (λ (r : Marked). record { memory = r.memory; stage = r.stage; used = at; output = r.output }) k)
 
-  pub turn_short : h ≡ Short → (r : Progress) → r ≡ stayed s at to → done m r out ≡ done_from out to at (once_at m s started (drop at input))
+  pub turn_rests : (h ≡ Short) ⊎ (h ≡ End) → done m (stayed s at to) out ≡ done_from out to at (once_at m s started (drop at input))
   unfolding put_of
-  turn_short f r q = let z : at + 0 ≡ at = omega arith in rw (q, front, f, z)
-
-  pub turn_end : h ≡ End → (r : Progress) → r ≡ stayed s at to → done m r out ≡ done_from out to at (once_at m s started (drop at input))
-  unfolding put_of
-  turn_end f r q = let z : at + 0 ≡ at = omega arith in rw (q, front, f, z)
+  turn_rests (inl f) = let z : at + 0 ≡ at = omega arith in rw (front, f, z)
+  turn_rests (inr f) = let z : at + 0 ≡ at = omega arith in rw (front, f, z)
 
 module _ (m : Block) (s : Stage) (x out : List ℕ) (at to : ℕ) (r : Done) where
   pub turn_first : s ≡ First → r ≡ done_from out to at (once_at m s false x) → r ≡ done_from out to at (play_of 1 m s x)
@@ -64,33 +62,22 @@ module _ (m : Block) (s : Stage) (x out : List ℕ) (at to : ℕ) (r : Done) whe
   unfolding play_of
   turn_next i e h = h ∙ rw e refl
 
-pub turn_over : (m : Block) (s : Stage) (x out : List ℕ) (at to : ℕ) (good : Bool) → s ≡ Over good → (r : Progress) → r ≡ stayed s at to
-    → done m r out ≡ done_from out to at (play_of 1 m s x)
+pub turn_over : (m : Block) (s : Stage) (x out : List ℕ) (at to : ℕ) (good : Bool) → s ≡ Over good
+    → done m (stayed s at to) out ≡ done_from out to at (play_of 1 m s x)
 unfolding play_of put_of
-turn_over m s x out at to good e r q = let z : at + 0 ≡ at = omega arith in rw (q, e, z)
+turn_over m s x out at to good e = let z : at + 0 ≡ at = omega arith in rw (e, z)
 
--- the end of the input
-pub close_none : (i : ℕ) (m : Block) (rest out : List ℕ) (r : Filled) → length rest ≡ 0 → r ≡ put_of out 0 (last_line m) → r ≡ put_of out 0 (closing (At i) m rest)
-close_none i m [] out r e h = h
-close_none i m (b ∷ rest) out r e h = absurd (omega arith)
+-- the end of the input, inside a record; and where there was no good setup
+pub close_cut : (i to : ℕ) (m : Block) (rest out x : List ℕ) (s : Stage) (r : Filled) → s ≡ At i → (length rest ≡ 0 → ⊥)
+    → filled x to ≡ put_of out 0 (line_of i (Refused 2))
+    → r ≡ put_of x to (last_line m)
+    → r ≡ put_of out 0 (closing s m rest)
+close_cut i to m [] out x s r g e f h = absurd (e refl)
+close_cut i to m (b ∷ rest) out x s r g e f h = h ∙ sym (put_append out 0 (line_of i (Refused 2)) (last_line m) ∙ rw (← f)) ∙ rw g
 
-pub close_cut : (i to : ℕ) (m : Block) (rest out x : List ℕ) (r : Filled) → (length rest ≡ 0 → ⊥) → filled x to ≡ put_of out 0 (line_of i (Refused 2))
-    → r ≡ put_of x to (last_line m) → r ≡ put_of out 0 (closing (At i) m rest)
-close_cut i to m [] out x r e f h = absurd (e refl)
-close_cut i to m (b ∷ rest) out x r e f h = h ∙ sym (put_append out 0 (line_of i (Refused 2)) (last_line m) ∙ rw (← f))
-
-pub close_first : (s : Stage) (m : Block) (rest out : List ℕ) (r : Filled) → s ≡ First → r ≡ put_of out 0 (line_of 0 (Refused 2)) → r ≡ put_of out 0 (closing s m rest)
-close_first s m rest out r e h = h ∙ rw e
-
-pub close_by : (s t : Stage) (m : Block) (rest out : List ℕ) (r : Filled) → s ≡ t → r ≡ put_of out 0 (closing t m rest) → r ≡ put_of out 0 (closing s m rest)
-close_by s t m rest out r e h = rw e h
-
-pub close_good : (m : Block) (out : List ℕ) (good : Bool) (r : Filled) → good ≡ true → r ≡ put_of out 0 (last_line m) → r ≡ put_of out 0 (last_if good m)
-close_good m out good r f h = h ∙ rw f
-
-pub close_bad : (m : Block) (out : List ℕ) (good : Bool) → good ≡ false → filled out 0 ≡ put_of out 0 (last_if good m)
+pub close_bad : (s : Stage) (m : Block) (rest out : List ℕ) → s ≡ Over false → filled out 0 ≡ put_of out 0 (closing s m rest)
 unfolding put_of
-close_bad m out good f = rw f
+close_bad s m rest out f = rw f
 
 -- one turn more: what is left to do from there on is what was left to do
 module _ (input : List ℕ) (m y : Block) (s : Stage) (at to : ℕ) (out x : List ℕ) (r : Progress) (d : Done) (turns i : ℕ) (l : i < turns)

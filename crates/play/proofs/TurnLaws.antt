@@ -2,8 +2,10 @@
 use mathlib.Core.Path.{◌≡◌, ◌∙◌}
 use mathlib.Core.Bool.{Bool, true, false}
 use mathlib.Core.List.{List}
-use Prim.Native.Nat.{ℕ, ◌+◌}
-use borrow.Author.Tests.{eq-eqb, ne_eqb}
+use Prim.Native.Nat.{ℕ, ◌+◌, ◌-◌, ◌^◌, ◌<◌}
+use Rattle.std.specs.Prelude.{cond, min, eqb, refl}
+use Rattle.std.proofs.Common.{arith, eqb-true}
+use Rattle.std.proofs.lemmas.Bool.{eqb-false}
 use Rattle.memory.specs.Block.{Block}
 use Rattle.memory.specs.declared.Sizes.{Sizes}
 use Rattle.memory.specs.Fresh.{begun, fresh_of}
@@ -21,13 +23,13 @@ use Rattle.play.specs.declared.Mark.{Mark}
 use Rattle.play.specs.Tick.{number_after, number_in, begun_in, refused_turn, setup_turn, event_turn, record_turn}
 use Rattle.play.specs.Done.{Marked, marked, marked_by}
 
-pub number_last : (i : ℕ) → i ≡ 18446744073709551615 → i ≡ number_after i
+pub number_next : (i : ℕ) → i < 2 ^ 64 → min (i + 1) (2 ^ 64 - 1) ≡ number_after i
 unfolding number_after
-number_last i e = rw (eq-eqb _ _ e)
-
-pub number_next : (i : ℕ) → (i ≡ 18446744073709551615 → ⊥) → i + 1 ≡ number_after i
-unfolding number_after
-number_next i e = rw (ne_eqb _ _ e)
+number_next i h = go (eqb i (2 ^ 64 - 1)) refl
+  where
+    go : (t : Bool) → eqb i (2 ^ 64 - 1) ≡ t → min (i + 1) (2 ^ 64 - 1) ≡ cond t i (i + 1)
+    go true e = let z = eqb-true _ _ e in omega arith
+    go false e = let z = eqb-false _ _ e in omega arith
 
 mark : Stage → ℕ → Mark
 mark s to = record { stage = s; to = to }

@@ -1,4 +1,5 @@
 pub mod Tick
+pub mod Reading
 pub mod Done
 pub mod Session
 pub mod Split

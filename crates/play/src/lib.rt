@@ -1,13 +1,15 @@
 // A schedule's bytes, played: a piece of the input into a piece of the output (document 01, "Answer lines of `tick`").
 #![tactic(auto)]
 
+mod reading;
 mod record;
 mod run;
 
+pub use reading::{has_begun, is_over};
 pub use run::{finish, play};
 
 // Where reading stands.
-#[derive(Clone, Copy)]
+#[derive(Clone, Copy, PartialEq, Eq, Debug)]
 pub enum Stage {
     // before the setup
     First,
@@ -18,7 +20,7 @@ pub enum Stage {
 }
 
 // How far playing came: where reading stands, the bytes of the input used, the bytes of the output written.
-#[derive(Clone, Copy)]
+#[derive(Clone, Copy, PartialEq, Eq, Debug)]
 pub struct Progress {
     pub stage: Stage,
     pub used: usize,
@@ -26,7 +28,7 @@ pub struct Progress {
 }
 
 // What one record leaves: where reading stands, the place after its line.
-#[derive(Clone, Copy)]
+#[derive(Clone, Copy, PartialEq, Eq, Debug)]
 pub struct Mark {
     pub stage: Stage,
     pub to: usize,

@@ -1,4 +1,4 @@
-use Rattle.play.proofs.RunLaws.{fits, turn_record, turn_unknown, turn_short, turn_end}
+use Rattle.play.proofs.RunLaws.{fits, turn_record, turn_unknown, turn_rests}
 use Rattle.std.proofs.Common.{rules, refl}
 use Rattle.play.proofs.run.turn_at.Goals as goal
 
@@ -9,17 +9,14 @@ pub returns-in-Unknown : goal.returns-in-Unknown
 returns-in-Unknown c = search (rules, turn_unknown)
 
 pub returns-in-Short : goal.returns-in-Short
-returns-in-Short c = search (rules, turn_short)
+returns-in-Short c = search (rules, turn_rests)
 
-pub returns-in-End : goal.returns-in-End
-returns-in-End c = search (rules, turn_end)
-
-pub overflow_add-result : goal.overflow_add-result
-overflow_add-result c =
+pub overflow_add-p : goal.overflow_add-p
+overflow_add-p c =
     let f = fits _ _ _ _ _ _ c.in-Record.ensures.0 refl in
     search rules
 
-pub overflow_add-result-in-Record : goal.overflow_add-result-in-Record
-overflow_add-result-in-Record c =
+pub overflow_add-p-in-Record : goal.overflow_add-p-in-Record
+overflow_add-p-in-Record c =
     let f = fits _ _ _ _ _ _ c.in-Record.ensures.0 refl in
     search rules
