@@ -19,10 +19,9 @@ use Rattle.answers.specs.PutLaws.{put_append}
 use Rattle.answers.specs.Line.{line_of, last_line}
 use Rattle.play.specs.declared.Stage.{Stage}
 use Rattle.play.specs.declared.Stage.TheVariants.{First, At, Over}
-use Rattle.play.specs.declared.Mark.{Mark}
 use Rattle.play.specs.declared.Progress.{Progress}
 use Rattle.play.specs.Tick.{refused_turn, record_turn, play_of, closing}
-use Rattle.play.specs.Done.{Done, done, stayed, done_from, turns_for, Marked, marked, marked_by, once_at, played_into}
+use Rattle.play.specs.Done.{Done, done, stayed, done_from, turns_for, turned, once_at, played_into}
 use Rattle.play.specs.Split.{played_on, play_split, play_stuck}
 
 pub fits : (started : Bool) (input : List ℕ) (at : ℕ) (h : Head) (kind n : ℕ) → h ≡ head_of started input at → h ≡ Record kind n → at + 1 + n ≤ length input
@@ -33,20 +32,21 @@ module _ (m : Block) (s : Stage) (started : Bool) (input : List ℕ) (at : ℕ) 
   front : head_of started (drop at input) 0 ≡ h
   front = sym (head_drop input at started) ∙ sym e
 
-  pub turn_record : (kind n : ℕ) (body : List ℕ) (y : Block) (mark : Mark) (x : List ℕ) → h ≡ Record kind n → body ≡ body_of input at kind
-      → marked y mark x ≡ marked_by out to (record_turn m s kind body)
-      → done y (record { stage = mark.stage; used = at + (1 + n); written = mark.to }) x ≡ done_from out to at (once_at m s started (drop at input))
-  turn_record kind n body y mark x f g k =
+  pub turn_record : (kind n : ℕ) (body : List ℕ) (y : Block) (q : Progress) (x : List ℕ) → h ≡ Record kind n → body ≡ body_of input at kind
+      → done y q x ≡ turned (stayed s at to) out (record_turn m s kind body)
+      → done y (record { stage = q.stage; used = q.used + (1 + n); written = q.written }) x ≡ done_from out to at (once_at m s started (drop at input))
+  turn_record kind n body y q x f g k =
       let t = record_turn m s kind body in
-      let z : at + (suc n + 0) ≡ at + (1 + n) = omega arith in
-      rw (front, f, ← body_drop input at kind, ← g, append-nil t.line, z) (ap (λ (r : Marked). record { memory = r.memory; stage = r.stage; used = at + (1 + n); output = r.output }) k)
+      let u : q.used ≡ at = ap (λ (d : Done). d.used) k in
+      let z : at + (suc n + 0) ≡ q.used + (1 + n) = omega arith in
+      rw (front, f, ← body_drop input at kind, ← g, append-nil t.line, z) (ap (λ (d : Done). record { memory = d.memory; stage = d.stage; used = q.used + (1 + n); output = d.output }) k)
 
-  pub turn_unknown : (mark : Mark) (x : List ℕ) → h ≡ Unknown → marked m mark x ≡ marked_by out to (refused_turn m s 3)
-      → done m (record { stage = mark.stage; used = at; written = mark.to }) x ≡ done_from out to at (once_at m s started (drop at input))
-  turn_unknown mark x f k =
+  pub turn_unknown : (r : Done) → h ≡ Unknown → r ≡ turned (stayed s at to) out (refused_turn m s 3)
+      → r ≡ done_from out to at (once_at m s started (drop at input))
+  turn_unknown r f k =
       let t = refused_turn m s 3 in
       let z : at + (0 + 0) ≡ at = omega arith in
-      rw (front, f, append-nil t.line, z) (ap (λ (r : Marked). record { memory = r.memory; stage = r.stage; used = at; output = r.output }) k)
+      k ∙ rw (front, f, append-nil t.line, z)
 
   pub turn_rests : (h ≡ Short) ⊎ (h ≡ End) → done m (stayed s at to) out ≡ done_from out to at (once_at m s started (drop at input))
   unfolding put_of

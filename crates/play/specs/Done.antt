@@ -5,7 +5,6 @@ use Rattle.memory.specs.Block.{Block}
 use Rattle.answers.specs.Put.{Filled, filled, put_of}
 use Rattle.play.specs.declared.Stage.{Stage}
 use Rattle.play.specs.declared.Progress.{Progress}
-use Rattle.play.specs.declared.Mark.{Mark}
 use Rattle.play.specs.Tick.{Turn, Played, rests, play_head, play_of}
 
 -- the memory; where reading stands; the bytes used; the output, filled from its start
@@ -35,16 +34,8 @@ abbrev pub turns_for : List ℕ → ℕ
 turns_for out = length out / 48
 
 -- what one record leaves: the memory, where reading stands, the output with its line
-pub record Marked : Type 0 where
-  pub memory : Block
-  pub stage : Stage
-  pub output : Filled
-
-abbrev pub marked : Block → Mark → List ℕ → Marked
-marked m r out = record { memory = m; stage = r.stage; output = filled out r.to }
-
-abbrev pub marked_by : List ℕ → ℕ → Turn → Marked
-marked_by out to t = record { memory = t.memory; stage = t.stage; output = put_of out to t.line }
+abbrev pub turned : Progress → List ℕ → Turn → Done
+turned p out t = record { memory = t.memory; stage = t.stage; used = p.used; output = put_of out p.written t.line }
 
 unfoldable pub played_into : Block → Stage → List ℕ → List ℕ → Done
 played_into m s x out = done_from out 0 0 (play_of (turns_for out) m s x)

@@ -26,10 +26,3 @@ pub struct Progress {
     pub used: usize,
     pub written: usize,
 }
-
-// What one record leaves: where reading stands, the place after its line.
-#[derive(Clone, Copy, PartialEq, Eq, Debug)]
-pub struct Mark {
-    pub stage: Stage,
-    pub to: usize,
-}

@@ -5,7 +5,7 @@ ghost use Rattle.play.specs.Tick as T;
 ghost use Rattle.play.specs.Done as D;
 
 use crate::record::{record_turn, refused_turn};
-use crate::{Mark, Progress, Stage};
+use crate::{Progress, Stage};
 use answers::{put_last, put_line};
 use events::Answer;
 use memory::Memory;
@@ -17,17 +17,10 @@ fn turn_at(m: &mut Memory, p: &mut Progress, started: bool, input: &[u8], out: &
 {
     match head_at(input, p.used, started) {
         Head::Record(kind, n) => {
-            let body = body_at(input, p.used, kind);
-            let mark = record_turn(m, p.stage, kind, body, out, p.written);
-            p.stage = mark.stage;
+            record_turn(m, p, kind, body_at(input, p.used, kind), out);
             p.used += 1 + n;
-            p.written = mark.to;
         }
-        Head::Unknown => {
-            let mark = refused_turn(m, p.stage, out, p.written, 3);
-            p.stage = mark.stage;
-            p.written = mark.to;
-        }
+        Head::Unknown => refused_turn(m, p, out, 3),
         Head::Short | Head::End => {}
     }
 }
