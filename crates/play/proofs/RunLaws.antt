@@ -20,7 +20,8 @@ use Rattle.answers.specs.Line.{line_of, last_line}
 use Rattle.play.specs.declared.Stage.{Stage}
 use Rattle.play.specs.declared.Stage.TheVariants.{First, At, Over}
 use Rattle.play.specs.declared.Progress.{Progress}
-use Rattle.play.specs.Tick.{refused_turn, record_turn, play_of, closing}
+use Rattle.play.specs.Reading.{over_in}
+use Rattle.play.specs.Tick.{begun_in, refused_turn, record_turn, play_of, closing}
 use Rattle.play.specs.Done.{Done, done, stayed, done_from, turns_for, turned, once_at, played_into}
 use Rattle.play.specs.Split.{played_on, play_split, play_stuck}
 
@@ -28,44 +29,48 @@ pub fits : (started : Bool) (input : List ℕ) (at : ℕ) (h : Head) (kind n : �
 fits started input at h kind n e f = (record_says started input at kind n (sym e ∙ f)).fits
 
 -- what stands at a place of the input
-module _ (m : Block) (s : Stage) (started : Bool) (input : List ℕ) (at : ℕ) (out : List ℕ) (to : ℕ) (h : Head) (e : h ≡ head_of started input at) where
+module _ (m : Block) (s : Stage) (started : Bool) (input : List ℕ) (at : ℕ) (out : List ℕ) (to : ℕ) (h : Head) (o : over_in s ≡ false) (g : started ≡ begun_in s)
+    (e : h ≡ head_of started input at) where
   front : head_of started (drop at input) 0 ≡ h
   front = sym (head_drop input at started) ∙ sym e
 
+  once : once_at m s started (drop at input) ≡ play_of 1 m s (drop at input)
+  unfolding play_of
+  once = rw g (go s o)
+    where
+      go : (z : Stage) → over_in z ≡ false → once_at m z (begun_in z) (drop at input) ≡ play_of 1 m z (drop at input)
+      go First q = refl
+      go (At i) q = refl
+      go (Over good) q = absurd (cc)
+
+  by : (r : Done) → r ≡ done_from out to at (once_at m s started (drop at input)) → r ≡ done_from out to at (play_of 1 m s (drop at input))
+  by r k = k ∙ ap (λ p. done_from out to at p) once
+
   pub turn_record : (kind n : ℕ) (body : List ℕ) (y : Block) (q : Progress) (x : List ℕ) → h ≡ Record kind n → body ≡ body_of input at kind
       → done y q x ≡ turned (stayed s at to) out (record_turn m s kind body)
-      → done y (record { stage = q.stage; used = q.used + (1 + n); written = q.written }) x ≡ done_from out to at (once_at m s started (drop at input))
-  turn_record kind n body y q x f g k =
+      → done y (record { stage = q.stage; used = q.used + (1 + n); written = q.written }) x ≡ done_from out to at (play_of 1 m s (drop at input))
+  turn_record kind n body y q x f b k =
       let t = record_turn m s kind body in
       let u : q.used ≡ at = ap (λ (d : Done). d.used) k in
       let z : at + (suc n + 0) ≡ q.used + (1 + n) = omega arith in
-      rw (front, f, ← body_drop input at kind, ← g, append-nil t.line, z) (ap (λ (d : Done). record { memory = d.memory; stage = d.stage; used = q.used + (1 + n); output = d.output }) k)
+      by _ (rw (front, f, ← body_drop input at kind, ← b, append-nil t.line, z) (ap (λ (d : Done). record { memory = d.memory; stage = d.stage; used = q.used + (1 + n); output = d.output }) k))
 
-  pub turn_unknown : (r : Done) → h ≡ Unknown → r ≡ turned (stayed s at to) out (refused_turn m s 3)
-      → r ≡ done_from out to at (once_at m s started (drop at input))
+  pub turn_unknown : (r : Done) → h ≡ Unknown → r ≡ turned (stayed s at to) out (refused_turn m s 3) → r ≡ done_from out to at (play_of 1 m s (drop at input))
   turn_unknown r f k =
       let t = refused_turn m s 3 in
       let z : at + (0 + 0) ≡ at = omega arith in
-      k ∙ rw (front, f, append-nil t.line, z)
+      by r (k ∙ rw (front, f, append-nil t.line, z))
 
-  pub turn_rests : (h ≡ Short) ⊎ (h ≡ End) → done m (stayed s at to) out ≡ done_from out to at (once_at m s started (drop at input))
+  pub turn_rests : (h ≡ Short) ⊎ (h ≡ End) → done m (stayed s at to) out ≡ done_from out to at (play_of 1 m s (drop at input))
   unfolding put_of
-  turn_rests (inl f) = let z : at + 0 ≡ at = omega arith in rw (front, f, z)
-  turn_rests (inr f) = let z : at + 0 ≡ at = omega arith in rw (front, f, z)
+  turn_rests (inl f) = let z : at + 0 ≡ at = omega arith in by _ (rw (front, f, z))
+  turn_rests (inr f) = let z : at + 0 ≡ at = omega arith in by _ (rw (front, f, z))
 
-module _ (m : Block) (s : Stage) (x out : List ℕ) (at to : ℕ) (r : Done) where
-  pub turn_first : s ≡ First → r ≡ done_from out to at (once_at m s false x) → r ≡ done_from out to at (play_of 1 m s x)
-  unfolding play_of
-  turn_first e h = h ∙ rw e refl
-
-  pub turn_next : (i : ℕ) → s ≡ At i → r ≡ done_from out to at (once_at m s true x) → r ≡ done_from out to at (play_of 1 m s x)
-  unfolding play_of
-  turn_next i e h = h ∙ rw e refl
-
-pub turn_over : (m : Block) (s : Stage) (x out : List ℕ) (at to : ℕ) (good : Bool) → s ≡ Over good
-    → done m (stayed s at to) out ≡ done_from out to at (play_of 1 m s x)
+pub turn_over : (m : Block) (s : Stage) (x out : List ℕ) (at to : ℕ) → over_in s ≡ true → done m (stayed s at to) out ≡ done_from out to at (play_of 1 m s x)
 unfolding play_of put_of
-turn_over m s x out at to good e = let z : at + 0 ≡ at = omega arith in rw (e, z)
+turn_over m (Over good) x out at to e = let z : at + 0 ≡ at = omega arith in rw z
+turn_over m First x out at to e = absurd (cc)
+turn_over m (At i) x out at to e = absurd (cc)
 
 -- the end of the input, inside a record; and where there was no good setup
 pub close_cut : (i to : ℕ) (m : Block) (rest out x : List ℕ) (s : Stage) (r : Filled) → s ≡ At i → (length rest ≡ 0 → ⊥)

@@ -4,6 +4,7 @@ ghost use Rattle.answers.specs.Put.{filled, put_of};
 ghost use Rattle.play.specs.Tick as T;
 ghost use Rattle.play.specs.Done as D;
 
+use crate::reading::{has_begun, is_over};
 use crate::record::{record_turn, refused_turn};
 use crate::{Progress, Stage};
 use answers::{put_last, put_line};
@@ -11,27 +12,20 @@ use events::Answer;
 use memory::Memory;
 use schedule::{Head, body_at, head_at};
 
-// What stands at a place of the input, before the setup or after it.
-fn turn_at(m: &mut Memory, p: &mut Progress, started: bool, input: &[u8], out: &mut [u8])
-    ensures { D.done m.new p.new out.new ≡ D.done_from out.old p.old.written p.old.used (D.once_at m.old p.old.stage started (drop p.old.used input.now)) }
+// What stands at the place of the input that playing has come to.
+fn turn(m: &mut Memory, p: &mut Progress, input: &[u8], out: &mut [u8])
+    ensures { D.done m.new p.new out.new ≡ D.done_from out.old p.old.written p.old.used (T.play_of 1 m.old p.old.stage (drop p.old.used input.now)) }
 {
-    match head_at(input, p.used, started) {
+    if is_over(p.stage) {
+        return;
+    }
+    match head_at(input, p.used, has_begun(p.stage)) {
         Head::Record(kind, n) => {
             record_turn(m, p, kind, body_at(input, p.used, kind), out);
             p.used += 1 + n;
         }
         Head::Unknown => refused_turn(m, p, out, 3),
         Head::Short | Head::End => {}
-    }
-}
-
-fn turn(m: &mut Memory, p: &mut Progress, input: &[u8], out: &mut [u8])
-    ensures { D.done m.new p.new out.new ≡ D.done_from out.old p.old.written p.old.used (T.play_of 1 m.old p.old.stage (drop p.old.used input.now)) }
-{
-    match p.stage {
-        Stage::First => turn_at(m, p, false, input, out),
-        Stage::At(_) => turn_at(m, p, true, input, out),
-        Stage::Over(_) => {}
     }
 }
 
