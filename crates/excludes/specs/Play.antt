@@ -1,5 +1,5 @@
 -- The crate `play`: what its promises rule out.
-use Rattle.std.specs.Prelude.{◌≡◌, refl, ◌≢◌, false, List, [], ◌∷◌, ◌++◌, ℕ, zero, suc, ◌≤◌, length}
+use Rattle.std.specs.Prelude.{◌≡◌, refl, ◌≢◌, Bool, true, false, List, [], ◌∷◌, ◌++◌, ℕ, zero, suc, ◌≤◌, length}
 use Rattle.std.proofs.Common.{arith, length-append}
 use Rattle.memory.specs.Block.{Block}
 use Rattle.events.specs.declared.Answer.TheVariants.{Refused}
@@ -11,10 +11,11 @@ use Rattle.answers.specs.LineLaws.{line_length, last_length}
 use Rattle.play.specs.declared.Stage.{Stage}
 use Rattle.play.specs.declared.Stage.TheVariants.{First, At, Over}
 use Rattle.play.specs.declared.Progress.{Progress}
+use Rattle.play.specs.Reading.{over_in}
 use Rattle.play.specs.Tick.{Played, begun_in, play_of, closing}
 use Rattle.play.specs.Done.{Done, done, done_from, turns_for, played_into}
 use Rattle.play.specs.Split.{head_for, record_goes, unknown_ends, short_rests}
-use Rattle.excludes.specs.Differ.{by}
+use Rattle.excludes.specs.Differ.{differ, by}
 use Rattle.excludes.specs.Answers.{apart, put_some, line_some}
 
 -- an output with room for a line, and what stands at the front of the input
@@ -60,3 +61,22 @@ finish_not_silent_at_a_cut_record m i b bs out h =
     let k = length-append (line_of i (Refused 2)) (last_line m) in
     apart out 0 (last_line m) (line_of i (Refused 2) ++ last_line m) (omega (arith, last_length m)) (omega (arith, k, line_length i (Refused 2), last_length m))
     (by (λ (t : List ℕ). length t) (λ e. omega (arith, k, line_some i (Refused 2))))
+
+pub has_begun_not_before_the_setup : true ≢ begun_in First
+has_begun_not_before_the_setup = (cc)
+
+-- the bad setup's refusal ends reading, and there was no good one
+pub has_begun_not_by_a_bad_setup : true ≢ begun_in (Over false)
+has_begun_not_by_a_bad_setup = (cc)
+
+pub has_begun_not_missed_after_the_setup : (i : ℕ) → false ≢ begun_in (At i)
+has_begun_not_missed_after_the_setup i = (cc)
+
+pub is_over_not_before_the_setup : true ≢ over_in First
+is_over_not_before_the_setup = (cc)
+
+pub is_over_not_while_records_are_read : (i : ℕ) → true ≢ over_in (At i)
+is_over_not_while_records_are_read i = (cc)
+
+pub is_over_not_missed_after_a_refusal : (good : Bool) → false ≢ over_in (Over good)
+is_over_not_missed_after_a_refusal good = (cc)

@@ -17,7 +17,6 @@ use Rattle.machine.specs.Apply.{apply_of}
 use Rattle.schedule.specs.Content.{event_of, setup_of}
 use Rattle.answers.specs.Put.{filled, put_of}
 use Rattle.answers.specs.Line.{line_of}
-use Rattle.play.specs.declared.Stage.{Stage}
 use Rattle.play.specs.declared.Stage.TheVariants.{First, At, Over}
 use Rattle.play.specs.declared.Progress.{Progress}
 use Rattle.play.specs.Tick.{number_after, number_in, begun_in, refused_turn, setup_turn, event_turn, record_turn}

@@ -1,5 +1,5 @@
 -- For every public function: two results, and two final contents, that keep its promise coincide.
-use Rattle.std.specs.Prelude.{◌≡◌, List, ℕ}
+use Rattle.std.specs.Prelude.{◌≡◌, Bool, List, ℕ}
 use Rattle.std.proofs.Common.{ap}
 use Rattle.word.specs.Coincide.{coincide}
 use Rattle.memory.specs.Block.{Block}
@@ -7,7 +7,8 @@ use Rattle.answers.specs.Put.{filled, put_of}
 use Rattle.answers.specs.Coincide.{both}
 use Rattle.play.specs.declared.Stage.{Stage}
 use Rattle.play.specs.declared.Progress.{Progress}
-use Rattle.play.specs.Tick.{closing}
+use Rattle.play.specs.Reading.{over_in}
+use Rattle.play.specs.Tick.{begun_in, closing}
 use Rattle.play.specs.Done.{Done, done, played_into}
 
 -- two memories, two answers, two outputs
@@ -23,3 +24,9 @@ play m stage input out y z r s a b e f =
 pub finish : (m : Block) (stage : Stage) (rest out x y : List ℕ) (r s : ℕ) → filled x r ≡ put_of out 0 (closing stage m rest) → filled y s ≡ put_of out 0 (closing stage m rest)
     → (x ≡ y) × (r ≡ s)
 finish m stage rest out x y r s = both
+
+pub has_begun : (stage : Stage) (r s : Bool) → r ≡ begun_in stage → s ≡ begun_in stage → r ≡ s
+has_begun stage r s = coincide
+
+pub is_over : (stage : Stage) (r s : Bool) → r ≡ over_in stage → s ≡ over_in stage → r ≡ s
+is_over stage r s = coincide

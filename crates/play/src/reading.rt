@@ -26,7 +26,11 @@ pub(crate) fn number_in(stage: Stage) -> u64
 pub fn has_begun(stage: Stage) -> bool
     ensures { result ≡ begun_in stage }
 {
-    matches!(stage, Stage::At(_) | Stage::Over(true))
+    match stage {
+        Stage::First => false,
+        Stage::At(_) => true,
+        Stage::Over(good) => good,
+    }
 }
 
 // A refusal has ended reading.

@@ -29,8 +29,11 @@ fn turn(m: &mut Memory, p: &mut Progress, input: &[u8], out: &mut [u8])
     }
 }
 
-fn play_records(m: &mut Memory, stage: Stage, input: &[u8], out: &mut [u8]) -> Progress
-    ensures { D.done m.new result out.new ≡ D.played_into m.old stage input.now out.old }
+// Plays records from the front of the input, as many as are there and as the output has room for the lines of: a line has at most
+// 45 bytes.
+pub fn play(m: &mut Memory, stage: Stage, input: &[u8], out: &mut [u8]) -> Progress
+    ensures played { D.done m.new result out.new ≡ D.played_into m.old stage input.now out.old }
+    ensures inside { (result.used ≤ length input.now) × (result.written ≤ length out.old) }
 {
     let mut p = Progress {
         stage,
@@ -45,14 +48,6 @@ fn play_records(m: &mut Memory, stage: Stage, input: &[u8], out: &mut [u8]) -> P
         }
     }
     p
-}
-
-// Plays records from the front of the input, as many as are there and as the output has room for the lines of.
-pub fn play(m: &mut Memory, stage: Stage, input: &[u8], out: &mut [u8]) -> Progress
-    ensures played { D.done m.new result out.new ≡ D.played_into m.old stage input.now out.old }
-    ensures inside { (result.used ≤ length input.now) × (result.written ≤ length out.old) }
-{
-    play_records(m, stage, input, out)
 }
 
 // The end of the input, with these bytes left, of which `play` can play nothing. The last line is absent when there was no good

@@ -1,7 +1,7 @@
 use Rattle.std.proofs.Common.{◌≡◌, ◌-◌, drop}
 use Rattle.play.specs.Tick.{play_of}
 use Rattle.play.specs.Done.{done_from, played_into}
-use Rattle.play.proofs.run.play_records.Given as goal
+use Rattle.play.proofs.run.play.Given as goal
 
 abbrev pub invariant-loop : goal.invariant-loop
 invariant-loop l =
