@@ -62,21 +62,26 @@ finish_not_silent_at_a_cut_record m i b bs out h =
     apart out 0 (last_line m) (line_of i (Refused 2) ++ last_line m) (omega (arith, last_length m)) (omega (arith, k, line_length i (Refused 2), last_length m))
     (by (λ (t : List ℕ). length t) (λ e. omega (arith, k, line_some i (Refused 2))))
 
+-- of yes and no
+abbrev bit : Bool → ℕ
+bit true = 1
+bit false = 0
+
 pub has_begun_not_before_the_setup : true ≢ begun_in First
-has_begun_not_before_the_setup = (cc)
+has_begun_not_before_the_setup = differ bit refl
 
 -- the bad setup's refusal ends reading, and there was no good one
 pub has_begun_not_by_a_bad_setup : true ≢ begun_in (Over false)
-has_begun_not_by_a_bad_setup = (cc)
+has_begun_not_by_a_bad_setup = differ bit refl
 
 pub has_begun_not_missed_after_the_setup : (i : ℕ) → false ≢ begun_in (At i)
-has_begun_not_missed_after_the_setup i = (cc)
+has_begun_not_missed_after_the_setup i = differ bit refl
 
 pub is_over_not_before_the_setup : true ≢ over_in First
-is_over_not_before_the_setup = (cc)
+is_over_not_before_the_setup = differ bit refl
 
 pub is_over_not_while_records_are_read : (i : ℕ) → true ≢ over_in (At i)
-is_over_not_while_records_are_read i = (cc)
+is_over_not_while_records_are_read i = differ bit refl
 
 pub is_over_not_missed_after_a_refusal : (good : Bool) → false ≢ over_in (Over good)
-is_over_not_missed_after_a_refusal good = (cc)
+is_over_not_missed_after_a_refusal good = differ bit refl
