@@ -2,7 +2,7 @@
 ghost use Rattle.std.specs.Prelude.{◌≤◌, length};
 
 use feed::{keep, read_on};
-use play::Stage;
+use play::{Stage, is_over};
 use std::io::Read;
 
 // It holds the memory, where reading stands, and the text that is not written yet.
@@ -41,7 +41,7 @@ pub trait Player {
             let more = read_on(input, buf, have);
             let used = self.play_all(&buf[..more]);
             self.flush();
-            let ended = more <= have || matches!(self.stage(), Stage::Over(_));
+            let ended = more <= have || is_over(self.stage());
             have = keep(buf, used, more);
             if ended {
                 break;

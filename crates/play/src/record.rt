@@ -1,21 +1,27 @@
 // One record: its line, and where reading stands after it.
 ghost use Rattle.std.specs.Prelude.{◌≡◌};
 ghost use Rattle.play.specs.Tick as T;
+ghost use Rattle.events.specs.Number.{number};
 ghost use Rattle.play.specs.Done as D;
 
 use crate::reading::{has_begun, number_after, number_in};
 use crate::{Progress, Stage};
 use answers::put_line;
-use events::Answer;
+use events::{Answer, Refusal};
 use machine::apply;
 use memory::{Memory, Sizes, fresh};
 use schedule::{event_of, setup_of};
 
 // A refusal 1 or 3: its line, and reading is over.
-pub(crate) fn refused_turn(m: &Memory, p: &mut Progress, out: &mut [u8], r: u64)
-    ensures { D.done m.now p.new out.new ≡ D.turned p.old out.old (T.refused_turn m.now p.old.stage r) }
+pub(crate) fn refused_turn(m: &Memory, p: &mut Progress, out: &mut [u8], r: Refusal)
+    ensures { D.done m.now p.new out.new ≡ D.turned p.old out.old (T.refused_turn m.now p.old.stage (number r)) }
 {
-    p.written = put_line(out, p.written, number_in(p.stage), Answer::Refused(r));
+    p.written = put_line(
+        out,
+        p.written,
+        number_in(p.stage),
+        Answer::Refused(u64::from(r)),
+    );
     p.stage = Stage::Over(has_begun(p.stage));
 }
 
@@ -28,7 +34,7 @@ fn setup_turn(m: &mut Memory, p: &mut Progress, x: Sizes, out: &mut [u8])
         p.written = put_line(out, p.written, 0, Answer::Ok);
         p.stage = Stage::At(1);
     } else {
-        refused_turn(m, p, out, 1);
+        refused_turn(m, p, out, Refusal::BadSizes);
     }
 }
 

@@ -8,7 +8,7 @@ use crate::reading::{has_begun, is_over};
 use crate::record::{record_turn, refused_turn};
 use crate::{Progress, Stage};
 use answers::{put_last, put_line};
-use events::Answer;
+use events::{Answer, Refusal};
 use memory::Memory;
 use schedule::{Head, body_at, head_at};
 
@@ -24,7 +24,7 @@ fn turn(m: &mut Memory, p: &mut Progress, input: &[u8], out: &mut [u8])
             record_turn(m, p, kind, body_at(input, p.used, kind), out);
             p.used += 1 + n;
         }
-        Head::Unknown => refused_turn(m, p, out, 3),
+        Head::Unknown => refused_turn(m, p, out, Refusal::UnknownKind),
         Head::Short | Head::End => {}
     }
 }
@@ -56,10 +56,10 @@ pub fn finish(m: &Memory, stage: Stage, rest: &[u8], out: &mut [u8]) -> usize
     ensures { filled out.new result ≡ put_of out.old 0 (T.closing stage m.now rest.now) }
 {
     match stage {
-        Stage::First => put_line(out, 0, 0, Answer::Refused(2)),
+        Stage::First => put_line(out, 0, 0, Answer::Refused(u64::from(Refusal::Short))),
         Stage::At(_) if rest.is_empty() => put_last(out, 0, m),
         Stage::At(i) => {
-            let to = put_line(out, 0, i, Answer::Refused(2));
+            let to = put_line(out, 0, i, Answer::Refused(u64::from(Refusal::Short)));
             put_last(out, to, m)
         }
         Stage::Over(true) => put_last(out, 0, m),

@@ -12,12 +12,7 @@ use changes::put_changes;
 use drive::Player;
 use memory::Memory;
 use page::Page;
-use play::{Stage, finish, play};
-
-// Whether there was a good setup, and so a memory to show.
-fn has_begun(s: Stage) -> bool {
-    matches!(s, Stage::At(_) | Stage::Over(true))
-}
+use play::{Stage, finish, has_begun, play};
 
 #[derive(Drop)]
 struct Trace<'a, R> {
