@@ -2,13 +2,13 @@
 use mathlib.Core.Path.{◌≡◌, refl, sym, ap, ◌∙◌}
 use mathlib.Core.Bool.{Bool, true, false, not, ◌&&◌, ◌||◌}
 use mathlib.Core.List.{List}
-use Prim.Native.Nat.{ℕ, zero, suc, ◌+◌, ◌-◌, ◌*◌, ◌%◌, ◌<◌, ◌≤◌, ◌^◌}
-use native.Mathlib.Nat.{add-sub_cancel_left}
+use Prim.Native.Nat.{ℕ, zero, suc, ◌+◌, ◌*◌, ◌%◌, ◌<◌, ◌≤◌, ◌^◌}
 use native.Mathlib.Omega.{arith}
 use lib.Dec.{eqb, leb, ltb}
-use lib.ListN.{length, get_or, set, take, drop, replicate, length-set, length-replicate}
+use lib.ListN.{length, get_or, set, replicate, length-set, length-replicate}
 use lib.Seq.{get_or-set_same, get_or-set_other}
 use borrow.Author.Tests.{eq-eqb, ne_eqb, eqb-true, eqb-false, lt-ltb, le-ltb, le-leb, lt-leb, ltb-true, ltb-false, not-true, not-false}
+use Rattle.std.proofs.Math.Bool.{or-false, or-true, and-false}
 use Rattle.word.specs.declared.Sort.{Sort}
 use Rattle.word.specs.declared.Sort.TheVariants.{Plain, Pointer, Neither}
 use Rattle.word.specs.Word.{marked, sort_of}
@@ -16,7 +16,7 @@ use Rattle.word.specs.Bits.{set_bit, by_bits}
 use Rattle.steps.specs.declared.Entry.{Entry}
 use Rattle.steps.specs.Plan.{is_free, points_to}
 use Rattle.little.specs.Number.{number_at}
-use Rattle.image.specs.Layout.{word_of, descriptor_place, part_of, status_in, entry_in}
+use Rattle.image.specs.Layout.{word_of, part_of, status_in, count_in, entry_in}
 use Rattle.image.specs.Check.{some_below, bad_body, is_neither, has_within, has_address, bad_target, bad_pointer, bad_pointer_at, bad_bodies, bad_words, bad_pointers}
 use Rattle.image.specs.CheckLaws.{none_below}
 use Rattle.image.specs.Good.{live_count, entry_good, entry_small}
@@ -44,29 +44,17 @@ points_number w d h l =
 pub points_law : (x : List ℕ) (a d u : ℕ) → u ≡ number_at x (8 * a) → u < 2 ^ 64 → d < 16 → eqb (u % 2 ^ 63) (2 ^ 62 + d) ≡ points_to (word_of x a) d
 points_law x a d u e h l = points_number u d h (omega arith) ∙ ap (λ (w : ℕ). points_to (sort_of w) d) e
 
-pub address_small : (p : List ℕ) (i c : ℕ) (e : Entry) → ((j : ℕ) → j < c → (entry_in p j).address < 64) → e ≡ entry_in p i → i < c → e.address < 64
-address_small p i c e h f l = rw f (h i l)
+pub address_small : (p : List ℕ) (i c : ℕ) (e : Entry) → ((j : ℕ) → j < count_in p → (entry_in p j).address < 64) → e ≡ entry_in p i → c ≡ count_in p → i < c → e.address < 64
+address_small p i c e h f g l = rw f (h i (rw g at l))
 
 -- an entry more
-pub and_none : (t : Bool) → (t && false) ≡ false
-and_none true = refl
-and_none false = refl
-
-or_none : (t : Bool) → (t || false) ≡ t
-or_none true = refl
-or_none false = refl
-
-or_all : (t : Bool) → (t || true) ≡ true
-or_all true = refl
-or_all false = refl
-
 within_next : (p : List ℕ) (i b : ℕ) → has_within p (i + 1) b ≡ (has_within p i b || eqb (entry_in p i).address b)
 unfolding has_within some_below
 within_next p i b = let z : i + 1 ≡ suc i = omega arith in rw z
 
 pub marks_first : (m : List Bool) (x p : List ℕ) (d : ℕ) → length m ≡ 64 → MarkedBy m m x p d 0
 unfolding claims_in has_within some_below
-marks_first m x p d e = record { whole = e; marks = λ a h. rw (and_none (points_to (word_of x a) d), or_none (get_or m a false)) }
+marks_first m x p d e = record { whole = e; marks = λ a h. rw (and-false (points_to (word_of x a) d), or-false (get_or m a false)) }
 
 module _ (m₀ m : List Bool) (x p : List ℕ) (d i : ℕ) (e : Entry) (t : Bool) (h : MarkedBy m₀ m x p d i) (f : e ≡ entry_in p i)
     (g : t ≡ points_to (word_of x e.address) d) where
@@ -76,7 +64,7 @@ module _ (m₀ m : List Bool) (x p : List ℕ) (d i : ℕ) (e : Entry) (t : Bool
   -- another address than the entry's
   other : (b : ℕ) → b < 64 → eqb e.address b ≡ false → get_or m b false ≡ (get_or m₀ b false || claims_in x p d (i + 1) b)
   unfolding claims_in
-  other b l q = h.marks b l ∙ rw (within_next p i b, here, q, or_none (has_within p i b))
+  other b l q = h.marks b l ∙ rw (within_next p i b, here, q, or-false (has_within p i b))
 
   pub marks_set : t ≡ true → e.address < 64 → MarkedBy m₀ (set m e.address true) x p d (i + 1)
   unfolding claims_in
@@ -89,7 +77,7 @@ module _ (m₀ m : List Bool) (x p : List ℕ) (d i : ℕ) (e : Entry) (t : Bool
       go b j true q =
           let z : e.address ≡ b = eqb-true e.address b q in
           let w : points_to (word_of x b) d ≡ true = rw (← z) (sym g ∙ r) in
-          rw (within_next p i b, here, q, or_all (has_within p i b), w, or_all (get_or m₀ b false), ← z) (get_or-set_same m e.address true false o)
+          rw (within_next p i b, here, q, or-true (has_within p i b), w, or-true (get_or m₀ b false), ← z) (get_or-set_same m e.address true false o)
       go b j false q = get_or-set_other m e.address b true false (λ v. eqb-false e.address b q (sym v)) ∙ other b j q
 
   pub marks_kept : t ≡ false → MarkedBy m₀ m x p d (i + 1)
@@ -103,17 +91,6 @@ module _ (m₀ m : List Bool) (x p : List ℕ) (d i : ℕ) (e : Entry) (t : Bool
           h.marks b j ∙ rw w
       go b j false q = other b j q
 
-pub marks_last : (m₀ m : List Bool) (x p : List ℕ) (d i c : ℕ) → MarkedBy m₀ m x p d i → i ≤ c → c ≤ i
-    → MarkedBy m₀ m x p d c
-marks_last m₀ m x p d i c h l q = let z : c ≡ i = omega arith in rw z h
-
--- the bytes from a descriptor's place to 112 further on
-abbrev pub given : List ℕ → ℕ → ℕ → List ℕ
-given x n d = take (descriptor_place n d + 112 - descriptor_place n d) (drop (descriptor_place n d) x)
-
-pub given_part : (x : List ℕ) (n d : ℕ) → given x n d ≡ part_of x n d
-given_part x n d = rw (add-sub_cancel_left (descriptor_place n d) 112)
-
 -- no mark
 no_marks : (i a : ℕ) → get_or (replicate i false) a false ≡ false
 no_marks zero a = refl
@@ -125,26 +102,26 @@ unfolding some_below
 claimed_first n x = record { whole = length-replicate 64 false; marks = λ a h. no_marks 64 a }
 
 -- a live descriptor's entries
-module _ (n k : ℕ) (x : List ℕ) (d : ℕ) (t : Bool) (c : ℕ) (b : bad_bodies n k x ≡ false) (h : d < k) (e : t ≡ is_free (status_in (given x n d))) (f : not t ≡ true)
-    (g : c ≡ number_at (given x n d) 8) where
-  good_body : bad_body n (given x n d) ≡ false
-  good_body = rw (given_part x n d) (none_below (λ i. bad_body n (part_of x n i)) k b d h)
+module _ (n k : ℕ) (x : List ℕ) (d : ℕ) (p : List ℕ) (q : p ≡ part_of x n d) (t : Bool) (b : bad_bodies n k x ≡ false) (h : d < k) (e : t ≡ is_free (status_in p))
+    (f : not t ≡ true) where
+  good_body : bad_body n p ≡ false
+  good_body = rw q (none_below (λ i. bad_body n (part_of x n i)) k b d h)
 
-  is_live : is_free (status_in (given x n d)) ≡ false
+  is_live : is_free (status_in p) ≡ false
   is_live = sym e ∙ not-true t f
 
-  pub live_few : c ≤ 4
-  live_few = rw g (live_count n (given x n d) good_body is_live).1
+  pub live_few : count_in p ≤ 4
+  live_few = (live_count n p good_body is_live).1
 
-  pub live_small : n ≤ 64 → (i : ℕ) → i < c → (entry_in (given x n d) i).address < 64
+  pub live_small : n ≤ 64 → (i : ℕ) → i < count_in p → (entry_in p i).address < 64
   live_small l i j =
-      let a = (entry_small n (entry_in (given x n d) i) (entry_good n (given x n d) good_body is_live i (rw g at j))).0 in
+      let a = (entry_small n (entry_in p i) (entry_good n p good_body is_live i j)).0 in
       omega arith
 
 -- a descriptor more
-module _ (n : ℕ) (x : List ℕ) (d : ℕ) (m : List Bool) (t : Bool) (h : Marked n d x m) (e : t ≡ is_free (status_in (given x n d))) where
+module _ (n : ℕ) (x : List ℕ) (d : ℕ) (p : List ℕ) (q : p ≡ part_of x n d) (m : List Bool) (t : Bool) (h : Marked n d x m) (e : t ≡ is_free (status_in p)) where
   here_is : is_free (status_in (part_of x n d)) ≡ t
-  here_is = rw (← given_part x n d) (sym e)
+  here_is = rw (← q) (sym e)
 
   claimed_next : (a : ℕ) → claimed n (d + 1) x a ≡ (claimed n d x a || claims n x d a)
   unfolding some_below
@@ -155,19 +132,12 @@ module _ (n : ℕ) (x : List ℕ) (d : ℕ) (m : List Bool) (t : Bool) (h : Mark
   claimed_free f =
       record {
         whole = h.whole;
-        marks = λ a l. h.marks a l ∙ rw (claimed_next a, here_is, not-false t f, and_none (points_to (word_of x a) d), or_none (claimed n d x a));
+        marks = λ a l. h.marks a l ∙ rw (claimed_next a, here_is, not-false t f, and-false (points_to (word_of x a) d), or-false (claimed n d x a));
       }
 
-  pub claimed_live : (m' : List Bool) (c : ℕ) → not t ≡ true → c ≡ number_at (given x n d) 8 → MarkedBy m m' x (given x n d) d c → Marked n (d + 1) x m'
+  pub claimed_live : (m' : List Bool) → not t ≡ true → MarkedBy m m' x p d (count_in p) → Marked n (d + 1) x m'
   unfolding claims claims_in
-  claimed_live m' c f g o =
-      record {
-        whole = o.whole;
-        marks = λ a l. o.marks a l ∙ rw (h.marks a l, claimed_next a, here_is, not-true t f, g, given_part x n d);
-      }
-
-pub claimed_last : (n k : ℕ) (x : List ℕ) (d : ℕ) (m : List Bool) → Marked n d x m → d ≤ k → k ≤ d → Marked n k x m
-claimed_last n k x d m h l q = let z : k ≡ d = omega arith in rw z h
+  claimed_live m' f o = record { whole = o.whole; marks = λ a l. o.marks a l ∙ rw (h.marks a l, claimed_next a, here_is, not-true t f, q) }
 
 -- of what holds below a number: the same, either of two, one alone
 below_same : (f g : ℕ → Bool) (k : ℕ) → ((i : ℕ) → i < k → f i ≡ g i) → some_below k f ≡ some_below k g
@@ -193,7 +163,7 @@ below_only g e (suc k) = rw (below_only g e k) (go (ltb e k) (eqb e k) refl refl
   where
     go : (t u : Bool) → ltb e k ≡ t → eqb e k ≡ u → ((t && g e) || (u && g k)) ≡ (ltb e (suc k) && g e)
     go true true p q = let l = ltb-true e k p in let z = eqb-true e k q in absurd (omega arith)
-    go true false p q = let l = ltb-true e k p in rw (lt-ltb e (suc k) (omega arith)) (or_none (g e))
+    go true false p q = let l = ltb-true e k p in rw (lt-ltb e (suc k) (omega arith)) (or-false (g e))
     go false true p q = let z : e ≡ k = eqb-true e k q in rw (lt-ltb e (suc k) (omega arith), z)
     go false false p q = let l = ltb-false e k p in let z : e ≡ k → ⊥ = eqb-false e k q in rw (le-ltb e (suc k) (omega arith))
 

@@ -1,4 +1,4 @@
-pub mod PartLaws
+pub mod AnyLaws
 pub mod ClaimLaws
 pub mod ImageLaws
 pub mod StepLaws

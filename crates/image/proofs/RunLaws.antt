@@ -1,21 +1,20 @@
 -- A run of recovery is its visits, one after the other: one law for each answer.
-use Rattle.std.specs.Prelude.{None, Option, Some, ℕ}
 use mathlib.Core.Path.{◌≡◌, refl, sym, ap, ◌∙◌}
 use mathlib.Core.Bool.{true, false, cond}
 use mathlib.Core.List.{List}
-use Prim.Native.Nat.{ℕ, zero, suc, ◌+◌, ◌-◌, ◌*◌, ◌<◌, ◌≤◌}
+use Prim.Native.Nat.{ℕ, zero, suc, ◌+◌, ◌-◌, ◌<◌, ◌≤◌}
 use native.Mathlib.Omega.{arith}
 use lib.Dec.{ltb}
-use lib.ListN.{length}
 use borrow.Author.Tests.{lt-ltb, le-ltb}
 use Rattle.steps.specs.declared.RecoveryPlace.{RecoveryPlace}
 use Rattle.steps.specs.declared.RecoveryPlace.TheVariants.{Outside, At}
 use Rattle.machine.specs.Recover.{place_after, visit_after}
-use Rattle.image.specs.declared.recover.Visit.{Visit}
-use Rattle.image.specs.declared.recover.Visit.TheVariants.{Over, Stopped}
-use Rattle.image.specs.Layout.{part_of}
-use Rattle.image.specs.Check.{bad_body, image_refusal}
-use Rattle.image.specs.CheckLaws.{accepted, sizes_small}
+use Rattle.std.specs.Prelude.{Option, Some, None, ℕ}
+use Rattle.image.specs.Check.{image_refusal}
+use Rattle.image.specs.CheckLaws.{accepted}
+use Rattle.image.specs.Refusals.{number_of}
+use Rattle.image.specs.declared.refusal.Refusal.{Refusal}
+use Rattle.image.specs.declared.refusal.Refusal.TheVariants.{Sizes, Length, Status, Body, Word, Pointer}
 use Rattle.image.specs.Good.{Good, good}
 use Rattle.image.specs.Stays.{Stands, Reached, begins, step_good, step_stands}
 use Rattle.image.specs.Recover.{plan_in, image_after, place_then, Ran, ran, one_more, run_from, Recovered, recovered, reported, recover_of}
@@ -26,13 +25,13 @@ abbrev pub after_steps : ℕ → Ran → Ran
 after_steps s r = ran r.bytes r.complete (s + r.steps)
 
 -- a visit leaves less of the allowance
-abbrev Less : ℕ → Visit → Type 0
-Less a (Over l) = l < a
-Less a Stopped = Unit
+abbrev Less : ℕ → Option ℕ → Type 0
+Less a (Some l) = l < a
+Less a None = Unit
 
-less_more : (a : ℕ) (v : Visit) → Less a v → Less (suc a) v
-less_more a (Over l) h = omega arith
-less_more a Stopped h = tt
+less_more : (a : ℕ) (v : Option ℕ) → Less a v → Less (suc a) v
+less_more a (Some l) h = omega arith
+less_more a None h = tt
 
 visit_less : (a n : ℕ) (x : List ℕ) (d done : ℕ) → Less a (visit_from a n x d done).result
 unfolding visit_from
@@ -45,16 +44,16 @@ visit_less (suc a) n x d done = go (plan_in x n d done).next (λ s. visit_less a
     go None rest = omega arith
 
 -- the rest of a run after a visit of d
-abbrev rest_after : ℕ → ℕ → ℕ → ℕ → List ℕ → Visit → Ran
-rest_after n k d a x (Over l) = after_steps (a - l) (run_from l n k x (visit_after d k))
-rest_after n k d a x Stopped = ran x false a
+abbrev rest_after : ℕ → ℕ → ℕ → ℕ → List ℕ → Option ℕ → Ran
+rest_after n k d a x (Some l) = after_steps (a - l) (run_from l n k x (visit_after d k))
+rest_after n k d a x None = ran x false a
 
-one_after : (n k d a : ℕ) (x : List ℕ) (v : Visit) → Less a v → one_more (rest_after n k d a x v) ≡ rest_after n k d (suc a) x v
-one_after n k d a x (Over l) h =
+one_after : (n k d a : ℕ) (x : List ℕ) (v : Option ℕ) → Less a v → one_more (rest_after n k d a x v) ≡ rest_after n k d (suc a) x v
+one_after n k d a x (Some l) h =
     let r = run_from l n k x (visit_after d k) in
     let z : suc (a - l + r.steps) ≡ suc a - l + r.steps = omega arith in
     rw z
-one_after n k d a x Stopped h = refl
+one_after n k d a x None h = refl
 
 run_visit : (a n k : ℕ) (x : List ℕ) (d done : ℕ) → run_from a n k x (At d done) ≡ rest_after n k d a (visit_from a n x d done).bytes (visit_from a n x d done).result
 unfolding run_from visit_from place_then
@@ -98,16 +97,10 @@ unfolding visit_after
 visit_before k d = let z : d + 1 ≡ suc d = omega arith in rw z
 
 module _ (n k : ℕ) (x : List ℕ) (g : Good n k x) (d : ℕ) (h : d < k) where
-  pub visit_fits : 8 * n + 112 * d + 112 ≤ length x
-  visit_fits = let e = g.sized.bytes in omega arith
-
-  pub visit_body : bad_body n (part_of x n d) ≡ false
-  visit_body = g.bodies d h
-
-  pub visit_kept : (left : ℕ) (y : List ℕ) (v : Visit) → visited y v ≡ visit_from left n x d 0 → Good n k y
+  pub visit_kept : (left : ℕ) (y : List ℕ) (v : Option ℕ) → visited y v ≡ visit_from left n x d 0 → Good n k y
   visit_kept left y v e = rw (ap (λ (r : Visited). r.bytes) e) (visit_good left n k x d 0 g (begins n k x d h))
 
-module _ (n k : ℕ) (x : List ℕ) (d left : ℕ) (y : List ℕ) (v : Visit) (h : d < k) (e : visited y v ≡ visit_from left n x d 0) where
+module _ (n k : ℕ) (x : List ℕ) (d left : ℕ) (y : List ℕ) (v : Option ℕ) (h : d < k) (e : visited y v ≡ visit_from left n x d 0) where
   whole : run_from left n k x (before k d) ≡ rest_after n k d left y v
   whole =
       let p : (visit_from left n x d 0).bytes ≡ y = ap (λ (r : Visited). r.bytes) (sym e) in
@@ -118,7 +111,7 @@ module _ (n k : ℕ) (x : List ℕ) (d left : ℕ) (y : List ℕ) (v : Visit) (h
   fewer = rw (ap (λ (r : Visited). r.result) e) (visit_less left n x d 0)
 
   -- the visit is over
-  module _ (l : ℕ) (f : v ≡ Over l) where
+  module _ (l : ℕ) (f : v ≡ Some l) where
     goes_less : l < left
     goes_less = rw f at fewer
 
@@ -135,18 +128,12 @@ module _ (n k : ℕ) (x : List ℕ) (d left : ℕ) (y : List ℕ) (v : Visit) (h
         rw (← z) (rw w at i)
 
   -- the allowance is used up
-  pub stops : (allowance : ℕ) (r : Ran) → v ≡ Stopped → left ≤ allowance → after_steps (allowance - left) (run_from left n k x (before k d)) ≡ r
+  pub stops : (allowance : ℕ) (r : Ran) → v ≡ None → left ≤ allowance → after_steps (allowance - left) (run_from left n k x (before k d)) ≡ r
       → recovered y (record { answer = 256; steps = allowance }) ≡ reported r
   stops allowance r f o i =
       let z : allowance - left + left ≡ allowance = omega arith in
       let w : run_from left n k x (before k d) ≡ ran y false left = whole ∙ rw f in
       ap reported (rw (w, z) at i)
-
-pub goes_in : (n k : ℕ) (x : List ℕ) (allowance : ℕ) → 0 < k → after_steps (allowance - allowance) (run_from allowance n k x (before k 0)) ≡ run_from allowance n k x (At 0 0)
-goes_in n k x allowance h =
-    let r = run_from allowance n k x (At 0 0) in
-    let z : allowance - allowance + r.steps ≡ r.steps = omega arith in
-    rw (lt-ltb 0 k h, z)
 
 -- all are visited
 run_outside : (a n k : ℕ) (x : List ℕ) → run_from a n k x Outside ≡ ran x true 0
@@ -161,18 +148,22 @@ goes_out n k x d allowance left r h i =
     ap reported (rw (le-ltb d k h, run_outside left n k x, z) at i)
 
 -- refused, or run
-pub refused : (n k : ℕ) (x : List ℕ) (allowance r : ℕ) → r ≡ image_refusal n k x → (r ≡ 0 → ⊥) → recovered x (record { answer = r; steps = 0 }) ≡ recover_of n k x allowance
-unfolding recover_of
-refused n k x allowance zero e f = absurd (f refl)
-refused n k x allowance (suc r) e f = rw (← e)
+some_number : (r : Refusal) → number_of r ≡ suc (number_of r - 1)
+some_number Sizes = refl
+some_number Length = refl
+some_number Status = refl
+some_number Body = refl
+some_number Word = refl
+some_number Pointer = refl
 
-module _ (n k : ℕ) (x : List ℕ) (r : ℕ) (e : r ≡ image_refusal n k x) (f : r ≡ 0) where
+pub refused : (n k : ℕ) (x : List ℕ) (allowance : ℕ) (r : Refusal) → number_of r ≡ image_refusal n k x → recovered x (record { answer = number_of r; steps = 0 }) ≡ recover_of n k x allowance
+unfolding recover_of
+refused n k x allowance r e = rw (← e, some_number r)
+
+module _ (n k : ℕ) (x : List ℕ) (e : 0 ≡ image_refusal n k x) where
   pub runs : (allowance : ℕ) (q : Recovered) → q ≡ reported (run_from allowance n k x (At 0 0)) → q ≡ recover_of n k x allowance
   unfolding recover_of
-  runs allowance q g = g ∙ rw (← e, f)
+  runs allowance q g = g ∙ rw (← e)
 
   pub is_good : Good n k x
-  is_good = good n k x (accepted n k x (sym e ∙ f))
-
-  pub some : 0 < k
-  some = (sizes_small n k (accepted n k x (sym e ∙ f)).sizes).1.1.0
+  is_good = good n k x (accepted n k x (sym e))

@@ -1,5 +1,4 @@
 -- The steps of a live descriptor, two at each entry and two at the end: what each does, and what a visit is then.
-use Rattle.std.specs.Prelude.{None, Option, Some, ℕ}
 use mathlib.Core.Path.{◌≡◌, refl, sym, ap, ◌∙◌}
 use mathlib.Core.Bool.{Bool, true, false, cond}
 use mathlib.Core.List.{List}
@@ -17,12 +16,12 @@ use Rattle.little.specs.Laws.{number_length, number-after, byte_after}
 use Rattle.steps.specs.declared.Effect.TheVariants.{BackWord, StoreStatus, BackStatus}
 use Rattle.steps.specs.Plan.{is_free, points_to, left_value, store_if}
 use Rattle.steps.specs.Recovery.{recovery_step, recovery_plan, live_step, entry_step, end_step}
-use Rattle.image.specs.declared.recover.Visit.TheVariants.{Over}
+use Rattle.std.specs.Prelude.{Some, None, Option, ℕ}
 use Rattle.image.specs.Layout.{word_place, word_of, with_word, descriptor_place, part_of, status_in, count_in, entry_in, with_status}
 use Rattle.image.specs.LayoutLaws.{same_part, part_number}
 use Rattle.image.specs.Recover.{seen_in, performed_in, plan_in, image_after}
 use Rattle.image.specs.Visit.{visited, visit_from, replaced}
-use Rattle.image.proofs.ClaimLaws.{and_none}
+use Rattle.std.proofs.Math.Bool.{and-false}
 use Rattle.steps.specs.declared.Plan.{Plan}
 
 -- a store keeps the length, and a word's store the descriptors
@@ -56,7 +55,7 @@ pub next_step : (a n : ℕ) (x : List ℕ) (d done s : ℕ) → (plan_in x n d d
 unfolding visit_from
 next_step a n x d done s e = rw e
 
-pub last_step : (a n : ℕ) (x : List ℕ) (d done : ℕ) → (plan_in x n d done).next ≡ None → visit_from (suc a) n x d done ≡ visited (image_after n x d done) (Over a)
+pub last_step : (a n : ℕ) (x : List ℕ) (d done : ℕ) → (plan_in x n d done).next ≡ None → visit_from (suc a) n x d done ≡ visited (image_after n x d done) (Some a)
 unfolding visit_from
 last_step a n x d done e = rw e
 
@@ -67,7 +66,7 @@ next_of q r e = ap (λ (p : Plan (Option ℕ)). p.next) e
 module _ (n : ℕ) (x : List ℕ) (d : ℕ) (f : is_free (status_in (part_of x n d)) ≡ false) where
   live_plan : (done : ℕ) → plan_in x n d done ≡ live_step d done (seen_in x n d (done / 2))
   unfolding plan_in recovery_plan seen_in
-  live_plan done = rw (f, and_none (eqb done 0))
+  live_plan done = rw (f, and-false (eqb done 0))
 
   module _ (i : ℕ) (l : i < count_in (part_of x n d)) (m : count_in (part_of x n d) ≤ 4) where
     even_plan : plan_in x n d (2 * i)
@@ -109,7 +108,7 @@ module _ (n : ℕ) (x : List ℕ) (d : ℕ) (f : is_free (status_in (part_of x n
       let c = count_in (part_of x n d) in
       let z : 2 * c / 2 ≡ c = omega arith in
       let y : 2 * c % 2 ≡ 0 = omega arith in
-      live_plan (2 * c) ∙ rw (z, le-ltb c c (omega arith), and_none (ltb (2 * c) 8), y)
+      live_plan (2 * c) ∙ rw (z, le-ltb c c (omega arith), and-false (ltb (2 * c) 8), y)
 
   pub end_image : image_after n x d (2 * count_in (part_of x n d)) ≡ with_status x n d Free
   unfolding image_after
@@ -122,7 +121,7 @@ module _ (n : ℕ) (x : List ℕ) (d c : ℕ) (e : count_in (part_of x n d) ≡ 
   last_plan =
       let z : suc (2 * c) / 2 ≡ c = omega arith in
       let y : suc (2 * c) % 2 ≡ 1 = omega arith in
-      rw (ne_eqb (suc (2 * c)) 0 (λ q. omega arith), e, z, le-ltb c c (omega arith), and_none (ltb (suc (2 * c)) 8), y)
+      rw (ne_eqb (suc (2 * c)) 0 (λ q. omega arith), e, z, le-ltb c c (omega arith), and-false (ltb (suc (2 * c)) 8), y)
 
   pub last_image : image_after n x d (suc (2 * c)) ≡ x
   unfolding image_after

@@ -1,5 +1,6 @@
 pub mod Layout
 pub mod Check
+pub mod Refusals
 pub mod Recover
 pub mod Visit
 pub mod Claims

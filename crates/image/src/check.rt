@@ -1,92 +1,41 @@
 // The checks of an image. One pass over the descriptors finds whether 21 or 22 holds, one over the words whether 23 or 24 does; which of the two is looked for
 // only then, the earlier one over the whole image first.
-ghost use Rattle.std.specs.Prelude.{◌≡◌, ◌<◌, ◌≤◌};
+ghost use Rattle.std.specs.Prelude.{◌≡◌, ◌<◌, ◌≤◌, IfOk};
 ghost use Rattle.image.specs.Layout as L;
 ghost use Rattle.image.specs.Check as C;
 ghost use Rattle.image.specs.Claims as M;
+ghost use Rattle.image.specs.Refusals.{told};
 
 use crate::claim::claimed;
+use crate::layout::{Sizes, word_of};
 use crate::part::{body_bad, status_bad};
-use little::read_u64;
-use word::{Sort, sort_of};
-
-// 1.
-fn sizes_bad(n: u64, k: u64) -> bool
-    ensures { result ≡ C.bad_sizes n k }
-{
-    if n < 1 {
-        return true;
-    }
-    if 64 < n {
-        return true;
-    }
-    if k < 1 {
-        return true;
-    }
-    16 < k
-}
+use crate::refusal::Refusal;
+use word::Sort;
 
 // 21, over all descriptors.
-fn statuses_bad(n: u64, k: u64, image: &[u8]) -> bool
-    requires { L.Sized n k image.now }
-    ensures { result ≡ C.bad_statuses n k image.now }
+fn statuses_bad(sizes: Sizes, image: &[u8]) -> bool
+    requires { L.Sized sizes.words sizes.descriptors image.now }
+    ensures { result ≡ C.bad_statuses sizes.words sizes.descriptors image.now }
 {
-    let mut d = 0;
-    while d < k {
-        let from = (8 * n + 112 * d) as usize;
-        let to = from + 112;
-        if status_bad(&image[from..to]) {
-            return true;
-        }
-        d = d + 1;
-    }
-    false
+    (0..sizes.descriptors).any(|d| status_bad(sizes.part(image, d)))
 }
 
 // 21 or 22, over all descriptors.
-fn descriptors_bad(n: u64, k: u64, image: &[u8]) -> bool
-    requires { L.Sized n k image.now }
-    ensures { result ≡ M.bad_descriptors n k image.now }
+fn descriptors_bad(sizes: Sizes, image: &[u8]) -> bool
+    requires { L.Sized sizes.words sizes.descriptors image.now }
+    ensures { result ≡ M.bad_descriptors sizes.words sizes.descriptors image.now }
 {
-    let mut d = 0;
-    while d < k {
-        let from = (8 * n + 112 * d) as usize;
-        let to = from + 112;
-        let part = &image[from..to];
-        if status_bad(part) {
-            return true;
-        }
-        if body_bad(n, part) {
-            return true;
-        }
-        d = d + 1;
-    }
-    false
-}
-
-fn is_neither(s: Sort) -> bool
-    ensures { result ≡ C.is_neither s }
-{
-    match s {
-        Sort::Plain(_, _) => false,
-        Sort::Pointer(_, _) => false,
-        Sort::Neither(_) => true,
-    }
+    (0..sizes.descriptors).any(|d| {
+        let part = sizes.part(image, d);
+        status_bad(part) || body_bad(sizes.words, part)
+    })
 }
 
 // 23, over all words.
-fn words_bad(n: u64, image: &[u8]) -> bool
-    requires { n ≤ 64 }
-    ensures { result ≡ C.bad_words n image.now }
+fn words_bad(sizes: Sizes, image: &[u8]) -> bool
+    ensures { result ≡ C.bad_words sizes.words image.now }
 {
-    let mut a = 0;
-    while a < n {
-        if is_neither(sort_of(read_u64(image, 8 * a as usize))) {
-            return true;
-        }
-        a = a + 1;
-    }
-    false
+    (0..sizes.words).any(|a| matches!(word_of(image, a), Sort::Neither(_)))
 }
 
 fn marked_bad(mark: bool, s: Sort) -> bool
@@ -100,51 +49,43 @@ fn marked_bad(mark: bool, s: Sort) -> bool
 }
 
 // 23 or 24, over all words.
-fn marked_words_bad(n: u64, image: &[u8], marks: &[bool; 64]) -> bool
-    requires { n ≤ 64 }
-    ensures { result ≡ M.bad_marked_words n image.now marks.now }
+fn marked_words_bad(sizes: Sizes, image: &[u8], marks: &[bool; 64]) -> bool
+    ensures { result ≡ M.bad_marked_words sizes.words image.now marks.now }
 {
-    let mut a = 0;
-    while a < n {
-        let s = sort_of(read_u64(image, 8 * a as usize));
-        if marked_bad(marks[a as usize], s) {
-            return true;
-        }
-        a = a + 1;
-    }
-    false
+    (0..sizes.words).any(|a| marked_bad(marks[a as usize], word_of(image, a)))
 }
 
 // 20 to 24.
-fn content_refusal(n: u64, k: u64, image: &[u8]) -> u64
-    requires { (n ≤ 64) × (k ≤ 16) }
-    ensures { result ≡ C.content_refusal n k image.now }
+#[tactic(auto, using(crate::proofs::ImageLaws::descriptors_either, crate::proofs::ClaimLaws::marked_words), unfolding(crate::specs::Check::content_refusal, events::specs::Refusal::first_of))]
+fn check_content(sizes: Sizes, image: &[u8]) -> Result<(), Refusal>
+    ensures { told result ≡ C.content_refusal sizes.words sizes.descriptors image.now }
 {
-    if image.len() as u64 != 8 * n + 112 * k {
-        return 20;
+    if image.len() != sizes.place(sizes.descriptors) {
+        return Err(Refusal::Length);
     }
-    if descriptors_bad(n, k, image) {
-        if statuses_bad(n, k, image) {
-            return 21;
+    if descriptors_bad(sizes, image) {
+        if statuses_bad(sizes, image) {
+            return Err(Refusal::Status);
         }
-        return 22;
+        return Err(Refusal::Body);
     }
-    let marks = claimed(n, k, image);
-    if marked_words_bad(n, image, &marks) {
-        if words_bad(n, image) {
-            return 23;
+    let marks = claimed(sizes, image);
+    if marked_words_bad(sizes, image, &marks) {
+        if words_bad(sizes, image) {
+            return Err(Refusal::Word);
         }
-        return 24;
+        return Err(Refusal::Pointer);
     }
-    0
+    Ok(())
 }
 
-// The refusal's number; 0 where there is none.
-pub(crate) fn refuse(n: u64, k: u64, image: &[u8]) -> u64
-    ensures { result ≡ C.image_refusal n k image.now }
+// All of them.
+#[tactic(auto, unfolding(crate::specs::Check::image_refusal, crate::specs::Check::content_refusal, events::specs::Refusal::first_of))]
+pub(crate) fn checked(n: u64, k: u64, image: &[u8]) -> Result<Sizes, Refusal>
+    ensures refusal { told result ≡ C.image_refusal n k image.now }
+    ensures sizes { IfOk result (λ s. (s.words ≡ n) × (s.descriptors ≡ k)) }
 {
-    if sizes_bad(n, k) {
-        return 1;
-    }
-    content_refusal(n, k, image)
+    let sizes = Sizes::new(n, k)?;
+    check_content(sizes, image)?;
+    Ok(sizes)
 }

@@ -3,18 +3,21 @@
 
 mod check;
 mod claim;
+mod layout;
 mod part;
 mod recover;
+mod refusal;
 
 ghost use Rattle.std.specs.Prelude.{◌≡◌};
 ghost use Rattle.image.specs.Recover.{recovered, recover_of};
 
-use crate::check::refuse;
+use crate::check::checked;
 use crate::recover::run;
 
 // What the caller is told: 0 complete, 256 incomplete, else the refusal's number; and the steps taken.
+// A number, and no enum: the C interface names it so.
 #[repr(C)]
-#[derive(Clone, Copy)]
+#[derive(Clone, Copy, PartialEq, Eq, Debug)]
 pub struct Recovery {
     pub answer: u64,
     pub steps: u64,
@@ -24,12 +27,11 @@ pub struct Recovery {
 pub fn pmwcas_recover(n: u64, k: u64, image: &mut [u8], allowance: u64) -> Recovery
     ensures { recovered image.new result ≡ recover_of n k image.old allowance }
 {
-    let r = refuse(n, k, image);
-    if r != 0 {
-        return Recovery {
-            answer: r,
+    match checked(n, k, image) {
+        Ok(sizes) => run(sizes, image, allowance),
+        Err(refusal) => Recovery {
+            answer: u64::from(refusal),
             steps: 0,
-        };
+        },
     }
-    run(n, k, image, allowance)
 }

@@ -1,9 +1,5 @@
-use Prim.Native.Nat.{◌≤◌, ◌-◌}
 use Rattle.image.specs.Claims.{MarkedBy}
 use Rattle.image.proofs.claim.mark.Given as goal
 
 abbrev pub invariant-loop-i : goal.invariant-loop-i
-invariant-loop-i l = (l.i ≤ l.entries) × MarkedBy l.initial.marks l.marks l.image l.part l.d l.i
-
-abbrev pub decreases-loop-i : goal.decreases-loop-i
-decreases-loop-i l = l.entries - l.i
+invariant-loop-i l = MarkedBy l.initial.marks l.marks l.image l.part l.d l.i

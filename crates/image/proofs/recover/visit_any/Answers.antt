@@ -1,9 +1,5 @@
-use Rattle.image.proofs.VisitLaws.{visit_none, visit_free}
-use Rattle.std.proofs.Common.{rules}
+use Rattle.image.proofs.VisitLaws.{visit_free}
 use Rattle.image.proofs.recover.visit_any.Goals as goal
 
-pub returns-then-left-eq0 : goal.returns-then-left-eq0
-returns-then-left-eq0 c = search (rules, visit_none)
-
-pub returns-then-status-eq0 : goal.returns-then-status-eq0
-returns-then-status-eq0 c = search (rules, visit_free)
+pub returns-in-Free : goal.returns-in-Free
+returns-in-Free c = visit_free _ _ _ _ _ _ c.part.ensures c.in-Free.ensures c.checked_sub.ensures
