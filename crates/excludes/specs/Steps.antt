@@ -10,6 +10,7 @@ use Rattle.word.specs.declared.Status.TheVariants.{Free, Undecided, Decided, Bad
 use Rattle.steps.specs.declared.Place.{Place}
 use Rattle.steps.specs.declared.Place.TheVariants.{Install, Decide, Swap, StoreFree, BackFree}
 use Rattle.steps.specs.declared.Seen.{Seen}
+use Rattle.steps.specs.declared.Entry.{Entry}
 use Rattle.steps.specs.declared.Effect.{Effect}
 use Rattle.steps.specs.declared.Effect.TheVariants.{Nothing, StoreWord, StoreStatus, BackStatus}
 use Rattle.steps.specs.declared.Next.{Next}
@@ -17,7 +18,7 @@ use Rattle.steps.specs.declared.Next.TheVariants.{Go, Wait}
 use Rattle.steps.specs.declared.Plan.{Plan}
 use Rattle.steps.specs.declared.ReadNext.{ReadNext}
 use Rattle.steps.specs.declared.ReadNext.TheVariants.{Value}
-use Rattle.steps.specs.Plan.{planned, points_to, is_dirty_pointer, is_dirty_plain, is_free, read_plan, read_clear_plan}
+use Rattle.steps.specs.Plan.{planned, points_to, is_dirty_pointer, is_dirty_plain, is_free, left_value, read_plan, read_clear_plan}
 use Rattle.steps.specs.Operation.{more_of, install_word, install_by, install, install_clear, persist_clear, decide, settle, settle_clear, swap, swapped, swap_clear, store_free}
 use Rattle.steps.specs.Recovery.{recovery_step, recovery_plan}
 use Rattle.image.specs.PlanLaws.{plan_cases}
@@ -63,6 +64,13 @@ install_not_a_swap_at_once i d a v x s n = go s.status
     go Undecided = at_word i d a v x s n s.word
     go (Decided o dirty) = by_effect (λ e. clash (cc))
     go (Bad y) = by_effect (λ e. clash (cc))
+
+-- a dirty Succeeded is a Succeeded; what is undecided leaves what was expected
+pub left_value_not_expected_where_succeeded : (dirty : Bool) (e : Entry) → e.expected ≢ e.desired → e.expected ≢ left_value (Decided Succeeded dirty) e
+left_value_not_expected_where_succeeded dirty e n = n
+
+pub left_value_not_desired_where_undecided : (e : Entry) → e.desired ≢ e.expected → e.desired ≢ left_value Undecided e
+left_value_not_desired_where_undecided e n = n
 
 pub install_not_failed_always : (i d : ℕ) (s : Seen) → s.status ≡ Undecided → s.word ≡ Plain s.entry.expected false → planned Nothing (Go (Decide Failed)) ≢ install i d s
 unfolding install

@@ -83,12 +83,13 @@ module _ (n d allowance : ℕ) (s : Status) (x₀ x : List ℕ) (c i left : ℕ)
     pub address_fits : n ≤ 64 → r.address < 64
     address_fits w = let j = small.0 in omega arith
 
+    -- whatever the status
+    pub value_fits : (t : Status) (v : ℕ) → v ≡ left_value t r → v < 2 ^ 61
+    value_fits t v z = rw z (chosen_small (outcome_of t) r small.1.0 small.1.1)
+
     module _ (v : ℕ) (z : v ≡ left_value s r) where
       is_value : v ≡ left_value (status_in (part_of x n d)) (entry_in (part_of x n d) i)
       is_value = z ∙ rw (k.status, is_entry)
-
-      pub value_fits : v < 2 ^ 61
-      value_fits = rw z (chosen_small (outcome_of s) r small.1.0 small.1.1)
 
       -- its two steps, of an allowance for one at least
       module _ (y : List ℕ) (f : 1 ≤ left) (py : y ≡ replaced x d r.address v) where

@@ -12,8 +12,8 @@ use crate::Recovery;
 use crate::claim::points_to;
 use crate::layout::{Sizes, count_in, entry_in, status_in};
 use little::write_u64;
-use steps::Entry;
-use word::{Outcome, Status};
+use steps::left_value;
+use word::Status;
 
 // The answers where no check refuses.
 const COMPLETE: u64 = 0;
@@ -28,16 +28,6 @@ fn replace(image: &mut [u8], d: u64, a: u64, v: u64)
 {
     if points_to(image, a, d) {
         write_u64(image, 8 * a as usize, v);
-    }
-}
-
-// Desired where the status is Succeeded, dirty or not; else expected. The crate steps has the same for itself: made public there, it would be a promise.
-fn left_value(status: Status, e: Entry) -> u64
-    ensures { result ≡ P.left_value status e }
-{
-    match status {
-        Status::Decided(Outcome::Succeeded, _) => e.desired,
-        _ => e.expected,
     }
 }
 

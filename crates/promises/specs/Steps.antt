@@ -6,6 +6,7 @@ use Rattle.steps.specs.Plan as P
 use Rattle.steps.specs.Recovery as R
 use Rattle.steps.proofs.planned.Reads as FnPlanned
 use Rattle.steps.proofs.goes.Reads as FnGoes
+use Rattle.steps.proofs.left_value.Reads as FnLeftValue
 use Rattle.steps.proofs.read_plan.Reads as FnReadPlan
 use Rattle.steps.proofs.read_clear_plan.Reads as FnReadClearPlan
 use Rattle.steps.proofs.install.Reads as FnInstall
@@ -24,6 +25,9 @@ planned _ _ _ _ _ _ = (tt, λ given. given)
 
 pub goes : (κs effect p r effect' p' : _) → FnGoes.Asked κs (effect, (p, tt)) × (FnGoes.Learnt κs (effect, (p, tt)) r (effect', (p', tt)) → r ≡ P.planned effect (Go p))
 goes _ _ _ _ _ _ = (tt, λ given. given)
+
+pub left-value : (κs t e r t' e' : _) → FnLeftValue.Asked κs (t, (e, tt)) × (FnLeftValue.Learnt κs (t, (e, tt)) r (t', (e', tt)) → r ≡ P.left_value t e)
+left-value _ _ _ _ _ _ = (tt, λ given. given)
 
 pub read-plan : (κs a s r a' s' : _) → FnReadPlan.Asked κs (a, (s, tt)) × (FnReadPlan.Learnt κs (a, (s, tt)) r (a', (s', tt)) → r ≡ P.read_plan a s)
 read-plan _ _ _ _ _ _ = (tt, λ given. given)

@@ -6,6 +6,7 @@ use Rattle.word.specs.declared.Status.{Status}
 use Rattle.word.specs.Coincide.{coincide}
 use Rattle.steps.specs.declared.Place.{Place}
 use Rattle.steps.specs.declared.Seen.{Seen}
+use Rattle.steps.specs.declared.Entry.{Entry}
 use Rattle.steps.specs.declared.Effect.{Effect}
 use Rattle.steps.specs.declared.Next.{Next}
 use Rattle.steps.specs.declared.Next.TheVariants.{Go}
@@ -21,6 +22,9 @@ planned e n r s = coincide
 
 pub goes : (e : Effect) (p : Place) (r s : Plan Next) → r ≡ P.planned e (Go p) → s ≡ P.planned e (Go p) → r ≡ s
 goes e p r s = coincide
+
+pub left-value : (t : Status) (e : Entry) (r s : ℕ) → r ≡ P.left_value t e → s ≡ P.left_value t e → r ≡ s
+left-value t e r s = coincide
 
 pub install : (i d : ℕ) (x : Seen) (r s : Plan Next) → r ≡ O.install i d x → s ≡ O.install i d x → r ≡ s
 install i d x r s = coincide

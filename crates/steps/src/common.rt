@@ -23,7 +23,7 @@ pub(crate) fn outcome_of(s: Status) -> Outcome
 }
 
 // The value that an operation of this status leaves at an entry.
-pub(crate) fn left_value(s: Status, e: Entry) -> u64
+pub fn left_value(s: Status, e: Entry) -> u64
     ensures { result ≡ P.left_value s e }
 {
     match outcome_of(s) {

@@ -6,7 +6,7 @@ mod common;
 mod operation;
 mod recovery;
 
-pub use common::{goes, planned, read_clear_plan, read_plan};
+pub use common::{goes, left_value, planned, read_clear_plan, read_plan};
 pub use operation::{
     decide, install, install_clear, persist_clear, settle, settle_clear, store_free, swap,
     swap_clear,
