@@ -1,12 +1,10 @@
 -- Lines: one law for each answer.
-use mathlib.Core.Path.{◌≡◌, refl, ap}
+use mathlib.Core.Path.{◌≡◌}
 use mathlib.Core.List.{List, [], ◌∷◌, append-nil}
-use Prim.Native.Nat.{ℕ, suc, ◌+◌, ◌<◌, ◌≤◌}
+use Prim.Native.Nat.{ℕ, suc, ◌+◌}
 use native.Mathlib.Omega.{arith}
 use Rattle.memory.specs.Block.{Block}
 use Rattle.memory.specs.Value.{value_of}
-use Rattle.memory.specs.declared.Sizes.{Sizes}
-use Rattle.memory.specs.Fresh.{sizes_in}
 use Rattle.events.specs.declared.Answer.{Answer}
 use Rattle.answers.specs.Decimal.{decimal_of}
 use Rattle.answers.specs.Put.{filled, put_of}
@@ -20,18 +18,7 @@ pub line : (o x y z : List ℕ) (at r s t i : ℕ) (a : Answer) → filled x r �
 unfolding line_of
 line o x y z at r s t i a e f g = join o y z at s t _ (10 ∷ []) (join o x y at r s (decimal_of i) (said a) e f) g
 
-module _ (m : Block) (s : Sizes) (e : s ≡ sizes_in m) where
-  pub shown_all : s.n < 64 → s.n ≡ words_shown m
-  shown_all h = let z : s.n ≡ (sizes_in m).n = ap (λ x. x.n) e in omega arith
-
-  pub shown_most : 64 ≤ s.n → 64 ≡ words_shown m
-  shown_most h = let z : s.n ≡ (sizes_in m).n = ap (λ x. x.n) e in omega arith
-
 -- the loop over the values
-pub values_none : (o : List ℕ) (at : ℕ) (m : Block) → filled o at ≡ put_of o at (spaced (values_below m 0))
-unfolding put_of values_below
-values_none o at m = refl
-
 pub values_next : (o x y : List ℕ) (at r s a v : ℕ) (m : Block) → filled x r ≡ put_of o at (spaced (values_below m a)) → v ≡ value_of m a
     → filled y s ≡ put_of x r (32 ∷ decimal_of v)
     → filled y s ≡ put_of o at (spaced (values_below m (a + 1)))
@@ -40,10 +27,6 @@ values_next o x y at r s a v m e g f =
     let z : a + 1 ≡ suc a = omega arith in
     rw (z, spaced_append (values_below m a) (value_of m a ∷ []), append-nil, ← g)
     (join o x y at r s (spaced (values_below m a)) (32 ∷ decimal_of v) e f)
-
-pub values_end : (o x : List ℕ) (at r a n : ℕ) (m : Block) → filled x r ≡ put_of o at (spaced (values_below m a)) → a ≤ n → n ≤ a
-    → filled x r ≡ put_of o at (spaced (values_below m n))
-values_end o x at r a n m e h l = let z : n ≡ a = omega arith in rw z e
 
 pub last-line : (o x y z : List ℕ) (at r s t n : ℕ) (m : Block) → n ≡ words_shown m → filled x r ≡ put_of o at (61 ∷ [])
     → filled y s ≡ put_of x r (spaced (values_below m n))

@@ -1,24 +1,14 @@
 -- Bytes, texts and numbers: one law for each answer.
-use mathlib.Core.Path.{◌≡◌, refl}
+use mathlib.Core.Path.{◌≡◌}
 use mathlib.Core.List.{List, [], ◌∷◌, ◌++◌}
 use Prim.Native.Nat.{ℕ, suc, ◌+◌, ◌/◌, ◌%◌, ◌^◌, ◌<◌, ◌≤◌}
 use native.Mathlib.Omega.{arith}
-use lib.ListN.{length, take, get_or, set}
+use lib.ListN.{length, take, get_or}
 use lib.Seq.{take-suc}
-use borrow.Author.Tests.{lt-ltb, le-ltb}
 use Rattle.answers.specs.Decimal.{decimal_of, places_of}
 use Rattle.answers.specs.DecimalLaws.{decimal_one, decimal_next, decimal_places}
 use Rattle.answers.specs.Put.{filled, put_of}
 use Rattle.answers.specs.PutLaws.{put_append}
-
--- a byte
-pub byte_put : (o : List ℕ) (at b : ℕ) → at < length o → filled (set o at b) (at + 1) ≡ put_of o at (b ∷ [])
-unfolding put_of
-byte_put o at b h = simp (lt-ltb _ _ h)
-
-pub byte_full : (o : List ℕ) (at b : ℕ) → length o ≤ at → filled o at ≡ put_of o at (b ∷ [])
-unfolding put_of
-byte_full o at b h = simp (le-ltb _ _ h)
 
 -- a text after another
 pub join : (o x y : List ℕ) (at r s : ℕ) (xs ys : List ℕ) → filled x r ≡ put_of o at xs → filled y s ≡ put_of x r ys → filled y s ≡ put_of o at (xs ++ ys)
@@ -28,10 +18,6 @@ pub joined : (o x y : List ℕ) (at r s : ℕ) (xs ys zs : List ℕ) → filled 
 joined o x y at r s xs ys zs e f g = rw g (join o x y at r s xs ys e f)
 
 -- the loop over a text
-pub text_none : (o t : List ℕ) (at : ℕ) → filled o at ≡ put_of o at (take 0 t)
-unfolding put_of
-text_none o t at = refl
-
 pub text_next : (o x y t : List ℕ) (at r s i : ℕ) → filled x r ≡ put_of o at (take i t) → i < length t → filled y s ≡ put_of x r (get_or t i 0 ∷ [])
     → filled y s ≡ put_of o at (take (i + 1) t)
 text_next o x y t at r s i e h f =

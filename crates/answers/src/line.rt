@@ -69,6 +69,7 @@ fn words_shown(m: &Memory) -> u64
 }
 
 // The values of the words at the addresses below n, a space before each.
+#[tactic(auto, unfolding(crate::specs::Put::put_of, crate::specs::Line::values_below))]
 fn put_values(out: &mut [u8], at: usize, m: &Memory, n: u64) -> usize
     ensures { filled out.new result ≡ put_of out.old at (spaced (values_below m.now n)) }
 {

@@ -4,6 +4,7 @@ ghost use Rattle.std.specs.Prelude.{◌≡◌, [], ◌∷◌, ◌+◌, ◌%◌, 
 ghost use Rattle.answers.specs.Decimal.{decimal_of, places_of};
 ghost use Rattle.answers.specs.Put.{filled, put_of};
 
+#[tactic(auto, unfolding(crate::specs::Put::put_of))]
 pub fn put_byte(out: &mut [u8], at: usize, b: u8) -> usize
     ensures { filled out.new result ≡ put_of out.old at (b ∷ []) }
 {
@@ -14,6 +15,7 @@ pub fn put_byte(out: &mut [u8], at: usize, b: u8) -> usize
     at
 }
 
+#[tactic(auto, unfolding(crate::specs::Put::put_of))]
 pub fn put_text(out: &mut [u8], at: usize, text: &[u8]) -> usize
     ensures { filled out.new result ≡ put_of out.old at text.now }
 {

@@ -1,19 +1,11 @@
--- `keep`: one law for each answer.
+-- `keep` copies, and the definition moves one byte after the other.
 use Rattle.std.specs.Prelude.{◌≡◌, ℕ, ◌+◌, ◌-◌, ◌<◌, ◌≤◌, List, length, get_or}
 use Rattle.std.specs.List.{CopiedTo, SameFrom}
 use Rattle.std.proofs.Common.{arith, sym, ◌∙◌, ext_get_or, inl, inr}
 use native.Mathlib.Numerals.{unary_clauses}
-use Rattle.std.proofs.lemmas.Bool.{lt-ltb, le-ltb, lt-leb, le-leb, cases_lt}
+use Rattle.std.proofs.lemmas.Bool.{le-ltb, lt-leb, cases_lt}
 use Rattle.feed.specs.Feed.{kept, moved, kept_of}
 use Rattle.feed.specs.FeedLaws.{moved_length, moved_behind, moved_front}
-
-pub keep_outside : (s : List ℕ) (from to : ℕ) → length s < to → kept s 0 ≡ kept_of s from to
-unfolding kept_of
-keep_outside s from to h = rw (lt-ltb _ _ h)
-
-pub keep_none : (s : List ℕ) (from to : ℕ) → to ≤ length s → to ≤ from → kept s 0 ≡ kept_of s from to
-unfolding kept_of
-keep_none s from to h l = rw (le-ltb _ _ h, le-leb _ _ l)
 
 -- a copy of n bytes to the start is those bytes moved one after the other
 copied : (s x : List ℕ) (from n : ℕ) → from + n ≤ length s → length x ≡ length s → CopiedTo s x from 0 n → SameFrom s x (0 + n) → x ≡ moved s from n

@@ -20,6 +20,7 @@ pub fn read_on(input: &mut impl Read, buf: &mut [u8], have: usize) -> usize
 }
 
 // The bytes from a place up to another go to the start; how many there are.
+#[tactic(auto, unfolding(crate::specs::Feed::kept_of))]
 pub fn keep(buf: &mut [u8], from: usize, to: usize) -> usize
     ensures moved { kept buf.new result ≡ kept_of buf.old from to }
     ensures inside { result ≤ length buf.old }

@@ -1,20 +1,9 @@
 -- What each return of the two functions says of the number at a place.
-use Rattle.std.specs.Prelude.{◌≡◌, ℕ, ◌+◌, ◌-◌, ◌/◌, ◌<◌, ◌≤◌, List, [], ◌∷◌, length, take, drop}
+use Rattle.std.specs.Prelude.{◌≡◌, ℕ, ◌+◌, ◌-◌, ◌/◌, ◌≤◌, List, [], ◌∷◌, length, take, drop}
 use Rattle.std.proofs.Common.{arith, ◌∙◌, append_assoc, drop-drop, length-drop, length-take-le, le-leb}
 use Rattle.std.specs.Int.{w64, from_le_bytes, to_le_bytes}
-use Rattle.std.proofs.lemmas.Bool.{lt-leb}
 use borrow.Rule.Slice.PartMut.{put_mid}
 use Rattle.little.specs.Number.{number_of, bytes_of, number_at, with_number}
-
--- where the eight bytes do not all lie in the list
-module _ (s : List ℕ) (at : ℕ) (h : length s < at + 8) where
-  pub none_there : 0 ≡ number_at s at
-  unfolding number_at
-  none_there = rw (lt-leb _ _ h)
-
-  pub none_stored : (v : ℕ) → s ≡ with_number s at v
-  unfolding with_number
-  none_stored v = rw (lt-leb _ _ h)
 
 -- the library's number of eight bytes, and its bytes of a number
 worth : (p : List ℕ) → length p ≡ 8 → from_le_bytes w64 p ≡ number_of p
@@ -31,7 +20,7 @@ digits v =
     let e7 : v / 72057594037927936 ≡ v / 256 / 256 / 256 / 256 / 256 / 256 / 256 = omega arith in
     cc
 
--- where they do; e is what was read or is stored
+-- the eight bytes lie in the list; e is what was read or is stored
 module _ (s e : List ℕ) (at : ℕ) (g : 8 ≤ length s) (h : at ≤ length s - 8) where
   fits : at + 8 ≤ length s
   fits = omega arith

@@ -5,6 +5,7 @@
 ghost use Rattle.std.specs.Prelude.{◌≡◌};
 ghost use Rattle.little.specs.Number.{number_at, with_number};
 
+#[tactic(auto, unfolding(crate::specs::Number::number_at))]
 pub fn read_u64(s: &[u8], at: usize) -> u64
     ensures { result ≡ number_at s.now at }
 {
@@ -14,6 +15,7 @@ pub fn read_u64(s: &[u8], at: usize) -> u64
     u64::from_le_bytes(s[at..at + 8].try_into().unwrap())
 }
 
+#[tactic(auto, unfolding(crate::specs::Number::with_number))]
 pub fn write_u64(s: &mut [u8], at: usize, v: u64)
     ensures { s.new ≡ with_number s.old at v }
 {

@@ -72,17 +72,13 @@ turn_over m (Over good) x out at to e = let z : at + 0 ≡ at = omega arith in r
 turn_over m First x out at to e = absurd (cc)
 turn_over m (At i) x out at to e = absurd (cc)
 
--- the end of the input, inside a record; and where there was no good setup
+-- the end of the input, inside a record
 pub close_cut : (i to : ℕ) (m : Block) (rest out x : List ℕ) (s : Stage) (r : Filled) → s ≡ At i → (length rest ≡ 0 → ⊥)
     → filled x to ≡ put_of out 0 (line_of i (Refused 2))
     → r ≡ put_of x to (last_line m)
     → r ≡ put_of out 0 (closing s m rest)
 close_cut i to m [] out x s r g e f h = absurd (e refl)
 close_cut i to m (b ∷ rest) out x s r g e f h = h ∙ sym (put_append out 0 (line_of i (Refused 2)) (last_line m) ∙ rw (← f)) ∙ rw g
-
-pub close_bad : (s : Stage) (m : Block) (rest out : List ℕ) → s ≡ Over false → filled out 0 ≡ put_of out 0 (closing s m rest)
-unfolding put_of
-close_bad s m rest out f = rw f
 
 -- one turn more: what is left to do from there on is what was left to do
 module _ (input : List ℕ) (m y : Block) (s : Stage) (at to : ℕ) (out x : List ℕ) (r : Progress) (d : Done) (turns i : ℕ) (l : i < turns)

@@ -6,6 +6,7 @@ ghost use Rattle.play.specs.Reading.{over_in};
 use crate::Stage;
 
 // The number after i; the count stands still at the greatest.
+#[tactic(auto, unfolding(crate::specs::Tick::number_after))]
 pub(crate) fn number_after(i: u64) -> u64
     ensures { result ≡ number_after i }
 {

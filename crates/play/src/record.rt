@@ -47,6 +47,7 @@ fn event_turn(m: &mut Memory, p: &mut Progress, i: u64, kind: u8, body: &[u8], o
 }
 
 // A record; the first is the setup.
+#[tactic(auto, unfolding(answers::specs::Put::put_of))]
 pub(crate) fn record_turn(m: &mut Memory, p: &mut Progress, kind: u8, body: &[u8], out: &mut [u8])
     ensures { D.done m.new p.new out.new ≡ D.turned p.old out.old (T.record_turn m.old p.old.stage kind body.now) }
 {

@@ -1,9 +1,5 @@
-use Rattle.std.proofs.Common.{rules}
-use Rattle.feed.proofs.KeepLaws.{keep_outside, keep_none, keep_some}
+use Rattle.feed.proofs.KeepLaws.{keep_some}
 use Rattle.feed.proofs.keep.Goals as goal
-
-pub returns-then-buf-to-clause-moved : goal.returns-then-buf-to-clause-moved
-returns-then-buf-to-clause-moved c = search (rules, keep_outside, keep_none)
 
 pub returns-clause-moved : goal.returns-clause-moved
 returns-clause-moved c =

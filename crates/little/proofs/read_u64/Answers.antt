@@ -1,9 +1,5 @@
-use Rattle.std.proofs.Common.{rules}
-use Rattle.little.proofs.CodeLaws.{none_there, read}
+use Rattle.little.proofs.CodeLaws.{read}
 use Rattle.little.proofs.read_u64.Goals as goal
-
-pub returns-then-s-lt8 : goal.returns-then-s-lt8
-returns-then-s-lt8 c = search (rules, none_there)
 
 pub returns : goal.returns
 returns c =

@@ -1,9 +1,6 @@
-use Rattle.std.proofs.Common.{rules, ◌∙◌}
-use Rattle.little.proofs.CodeLaws.{none_stored, stored}
+use Rattle.std.proofs.Common.{◌∙◌}
+use Rattle.little.proofs.CodeLaws.{stored}
 use Rattle.little.proofs.write_u64.Goals as goal
-
-pub returns-then-s-lt8 : goal.returns-then-s-lt8
-returns-then-s-lt8 c = search (rules, none_stored)
 
 pub returns : goal.returns
 returns c = stored _ _ _ c.if-s-lt8.false c.if-s-at.false _ (c.copy_from_slice.ensures.after ∙ c.to_le_bytes.ensures)

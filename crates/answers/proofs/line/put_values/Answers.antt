@@ -1,9 +1,6 @@
 use Rattle.std.proofs.Common.{rules}
-use Rattle.answers.proofs.LineLaws.{values_none, values_next}
+use Rattle.answers.proofs.LineLaws.{values_next}
 use Rattle.answers.proofs.line.put_values.Goals as goal
-
-pub loop-a-init : goal.loop-a-init
-loop-a-init c = search (rules, values_none)
 
 pub loop-a-preserved : goal.loop-a-preserved
 loop-a-preserved c = search (rules, values_next)
