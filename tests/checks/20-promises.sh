@@ -40,7 +40,7 @@ for lib in crates/*/src/lib.rt; do
         continue
     fi
     # every public line of a library's root is one that is understood here: uses of names, a function, a type
-    grep -n '^ *pub' "$lib" | grep -Ev ':(pub use [a-z_0-9]+::([A-Za-z_0-9]+;|\{)|    pub [a-z_0-9]+: [A-Za-z0-9_]+,|pub (struct|enum) [A-Za-z]+ \{|pub type [A-Za-z]+ = .*;|pub fn )' >build/promises.odd
+    grep -n '^ *pub' "$lib" | grep -Ev ':(pub use [a-z_0-9]+::([A-Za-z_0-9]+;|\{)|    pub [a-z_0-9]+: [A-Za-z0-9_]+,|pub (struct|enum) [A-Za-z]+(<[A-Z]>)? \{|pub type [A-Za-z]+ = .*;|pub fn )' >build/promises.odd
     while read -r line; do say "$lib:$line is of no form that this check knows"; done <build/promises.odd
     # in its other files `pub` is for what the root passes on; what only this crate may call is `pub(crate)`
     for file in crates/"$crate"/src/*.rt; do
