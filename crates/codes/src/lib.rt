@@ -8,7 +8,8 @@ ghost use Rattle.codes.specs.Row.{place_in, own_in, is_working, worker_of, row_o
 use steps::{Own, Place, RecoveryPlace, Worker};
 use word::Outcome;
 
-// A worker's row: what it is, what it owns, its current job, its place there, the entry, what it noted.
+// A worker's row: what it is, what it owns, its current job, its place there, the entry, what it noted. Numbers, and no enums: the
+// block holds them, and any number that stands there is read.
 #[derive(Clone, Copy, PartialEq, Eq, Default, Debug)]
 pub struct Row {
     pub tag: u64,
@@ -19,7 +20,7 @@ pub struct Row {
     pub noted: u64,
 }
 
-// Recovery's place: whether there is one, the descriptor, the steps done.
+// Recovery's place: whether there is one, the descriptor, the steps done. Three numbers of the block, and so no Option.
 #[derive(Clone, Copy, PartialEq, Eq, Default, Debug)]
 pub struct RecoveryRow {
     pub on: u64,

@@ -21,6 +21,7 @@ pub trait Player {
     final fn play_all(&mut self, input: &[u8]) -> usize
         ensures { result ≤ length input.now }
     {
+        // No count by one: each call says how far it came.
         let mut used = 0;
         while used < input.len() {
             match self.play_on(&input[used..]) {

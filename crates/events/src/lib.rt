@@ -32,7 +32,7 @@ pub enum Event {
     Recover,
 }
 
-// An answer: OK, D d, M, H e, W, S or F, V v, A, Z, R r.
+// An answer: OK, D d, M, H e, W, S or F, V v, A, Z, R r. A refusal is a number here: `answers::put_line` has a line for every one.
 #[derive(Clone, Copy, PartialEq, Eq, Debug)]
 pub enum Answer {
     Ok,

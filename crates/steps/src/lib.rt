@@ -63,7 +63,8 @@ pub enum Worker {
     ReadClear(u64, u64),
 }
 
-// Recovery's place: none outside recovery, or the descriptor and the steps done there.
+// Recovery's place: none outside recovery, or the descriptor and the steps done there. No Option of a pair: it would not say which of
+// the two is the descriptor.
 #[derive(Clone, Copy, PartialEq, Eq, Debug)]
 pub enum RecoveryPlace {
     Outside,

@@ -10,6 +10,7 @@ fn read_full(file: &mut impl Read, buf: &mut [u8]) -> usize
     ensures { result ≤ length buf.new }
 {
     let mut n = 0;
+    // No count by one: each read says how far it came.
     while n < buf.len() {
         match file.read(&mut buf[n..]) {
             Ok(got) if got > 0 => n += got,
