@@ -2,7 +2,7 @@
 use Rattle.std.specs.Prelude.{None, Some, ℕ}
 use mathlib.Core.Path.{◌≡◌, sym, ap, ◌∙◌}
 use mathlib.Core.Bool.{Bool, true, false}
-use Prim.Native.Nat.{ℕ, zero, suc, ◌+◌, ◌-◌, ◌<◌, ◌≤◌}
+use Prim.Native.Nat.{ℕ, zero, suc, ◌+◌, ◌-◌, ◌<◌}
 use native.Mathlib.Omega.{arith}
 use Rattle.steps.specs.declared.Worker.{Worker}
 use Rattle.memory.specs.Block.{Block}
@@ -15,9 +15,6 @@ module _ (m : Block) (d : ℕ) where
   unfolding owned_below
   one-more n r e f = let z : n + 1 ≡ suc n = omega arith in rw (z, e, f)
 
-  pub owned_next : (n : ℕ) (x : Worker) (r : Bool) → owned_below m d n ≡ false → x ≡ worker_in m n → r ≡ owns x d → r ≡ false → owned_below m d (n + 1) ≡ false
-  owned_next n x r e f g h = one-more n r e (g ∙ ap (λ (y : Worker). owns y d) f) ∙ h
-
   stays : (n : ℕ) (k : ℕ) → owned_below m d n ≡ true → owned_below m d (n + k) ≡ true
   unfolding owned_below
   stays n zero e = let z : n + 0 ≡ n = omega arith in rw z e
@@ -28,15 +25,8 @@ module _ (m : Block) (d : ℕ) where
       let z : n + 1 + (7 - n) ≡ 8 = omega arith in
       sym (rw z at (stays (n + 1) (7 - n) (one-more n r e (g ∙ ap (λ (y : Worker). owns y d) f) ∙ h)))
 
-  pub owned_none : (n : ℕ) → owned_below m d n ≡ false → n ≤ 8 → 8 ≤ n → false ≡ owned_below m d 8
-  owned_none n e l k = let z : 8 ≡ n = omega arith in rw z (sym e)
-
 -- the lowest that does
 module _ (m : Block) where
-  pub lowest_next : (d : ℕ) (t : Bool) → lowest_below m d ≡ None → t ≡ qualifies m d → t ≡ false → lowest_below m (d + 1) ≡ None
-  unfolding lowest_below
-  lowest_next d t e f g = let z : d + 1 ≡ suc d = omega arith in rw (z, e, ← f, g)
-
   here_stays : (i d k : ℕ) → lowest_below m d ≡ Some i → lowest_below m (d + k) ≡ Some i
   unfolding lowest_below
   here_stays i d zero e = let z : d + 0 ≡ d = omega arith in rw z e
@@ -50,6 +40,3 @@ module _ (m : Block) where
   lowest_here d k t e l f g =
       let z : d + 1 + (k - 1 - d) ≡ k = omega arith in
       sym (rw z at (here_stays d (d + 1) (k - 1 - d) (first_here d e (sym g ∙ f))))
-
-  pub lowest_none : (d k : ℕ) → lowest_below m d ≡ None → d ≤ k → k ≤ d → None ≡ lowest_below m k
-  lowest_none d k e l h = let z : k ≡ d = omega arith in rw z (sym e)

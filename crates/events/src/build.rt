@@ -27,6 +27,7 @@ fn owns(x: Worker, d: u64) -> bool
     }
 }
 
+#[tactic(auto, using(crate::proofs::BuildLaws::owned_found), unfolding(crate::specs::Build::owned_below))]
 fn owned(m: &Memory, d: u64) -> bool
     ensures { result ≡ B.owned_below m.now d 8 }
 {
@@ -48,6 +49,7 @@ fn qualifies(m: &Memory, d: u64) -> bool
 }
 
 // The lowest descriptor below k that qualifies.
+#[tactic(auto, using(crate::proofs::BuildLaws::lowest_here), unfolding(crate::specs::Build::lowest_below))]
 pub fn lowest(m: &Memory, k: u64) -> Option<u64>
     ensures { result ≡ B.lowest_below m.now k }
 {

@@ -11,9 +11,6 @@ module _ (m : Block) (w d : ℕ) where
   unfolding others_on
   one-more n r e f = let z : n + 1 ≡ suc n = omega arith in rw (z, e, f)
 
-  pub others_next : (n : ℕ) (r : Bool) → others_on m w d n ≡ false → r ≡ other_on m w d n → r ≡ false → others_on m w d (n + 1) ≡ false
-  others_next n r e f g = one-more n r e f ∙ g
-
   stays : (n k : ℕ) → others_on m w d n ≡ true → others_on m w d (n + k) ≡ true
   unfolding others_on
   stays n zero e = let z : n + 0 ≡ n = omega arith in rw z e

@@ -87,6 +87,7 @@ fn apply_step(m: &mut Memory, w: u64) -> Result<Answer, Refusal>
     Ok(step(m, w, r))
 }
 
+// The three write-backs are a function each: one for all, with the write-back as a closure, would be no plainer.
 #[tactic(auto, unfolding(crate::specs::Apply::apply_of, events::specs::Refusal::refusal_of))]
 fn apply_back_word(m: &mut Memory, a: u64) -> Result<Answer, Refusal>
     ensures { left m.new (answer result) ≡ apply_of m.old (Event.BackWord a) }

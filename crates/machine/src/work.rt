@@ -62,6 +62,7 @@ fn other_on(m: &Memory, w: u64, d: u64, v: u64) -> bool
 }
 
 // Another worker than w is on d.
+#[tactic(auto, using(crate::proofs::StepLaws::others_found), unfolding(crate::specs::Step::others_on))]
 fn others_on(m: &Memory, w: u64, d: u64) -> bool
     ensures { result ≡ S.others_on m.now w d 8 }
 {

@@ -15,6 +15,7 @@ fn has_succeeded(s: Status) -> bool
     matches!(s, Status::Decided(Outcome::Succeeded, _))
 }
 
+// The same as step 6 leaves (`steps::left_value`). By itself: the value of a word is a definition of its own, and an edit is about it.
 fn entry_value(s: Status, e: Entry) -> u64
     ensures { result ≡ entry_value s e }
 {
