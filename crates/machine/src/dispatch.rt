@@ -140,7 +140,7 @@ fn told(r: Result<Answer, Refusal>) -> Answer
     r.unwrap_or_else(|r| Answer::Refused(u64::from(r)))
 }
 
-// One event of a schedule, on any block.
+// One event of a schedule, on any block. A match, and no closures: each event has what its function takes.
 pub fn apply(m: &mut Memory, e: Event) -> Answer
     ensures { left m.new result ≡ apply_of m.old e }
 {

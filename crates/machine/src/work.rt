@@ -100,7 +100,7 @@ struct Work {
     place: Place,
 }
 
-// The plan of a step, from what its place needs to see and no more.
+// The plan of a step, from what its place needs to see and no more. A match, and no closures: the compiler sees each place's effect.
 #[tactic(auto, unfolding(crate::specs::Step::plan_at, crate::specs::Step::seen_in))]
 fn plan_at(m: &Memory, x: Work) -> Plan<Next>
     ensures { result ≡ S.plan_at m.now x.worker x.own x.job x.place }
