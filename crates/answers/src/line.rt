@@ -4,7 +4,7 @@ ghost use Rattle.answers.specs.Decimal.{decimal_of};
 ghost use Rattle.answers.specs.Put.{filled, put_of};
 ghost use Rattle.answers.specs.Line.{spaced, said, line_of, values_below, words_shown, last_line};
 
-use crate::text::{put_byte, put_count, put_decimal, put_text};
+use crate::text::{put_byte, put_decimal, put_text};
 use events::Answer;
 use memory::{Memory, read_sizes, value_of};
 use word::Outcome;
@@ -56,7 +56,7 @@ fn put_answer(out: &mut [u8], at: usize, a: Answer) -> usize
 pub fn put_line(out: &mut [u8], at: usize, number: u64, a: Answer) -> usize
     ensures { filled out.new result ≡ put_of out.old at (line_of number a) }
 {
-    let b = put_count(out, at, number);
+    let b = put_decimal(out, at, number);
     let c = put_answer(out, b, a);
     put_byte(out, c, b'\n')
 }

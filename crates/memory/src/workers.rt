@@ -4,7 +4,7 @@ ghost use Rattle.memory.specs.Content.{row_in, worker_in, put_worker, row_from, 
 
 use crate::Memory;
 use crate::block::{load, save};
-use codes::{RecoveryRow, Row, recovery_of, recovery_row, row_of, row_working, worker_of};
+use codes::{RecoveryRow, Row, recovery_of, recovery_row, row_of, worker_of};
 use steps::{Own, Place, RecoveryPlace, Worker};
 
 // The row whose first number is at slot i. One test of the place serves all six numbers, here and in put_row.
@@ -51,6 +51,8 @@ pub fn read_worker(m: &Memory, w: u64) -> Worker
     worker_of(read_row(m, w))
 }
 
+// Inline: most steps store a worker that goes on, and are stored without a look at what else a worker can be.
+#[inline]
 #[tactic(auto, unfolding(crate::specs::Content::put_row, crate::specs::Block::slot, crate::specs::Block::store))]
 pub fn put_worker(m: &mut Memory, w: u64, x: Worker)
     ensures { m.new ≡ put_worker m.old w x }
@@ -61,16 +63,11 @@ pub fn put_worker(m: &mut Memory, w: u64, x: Worker)
     }
 }
 
-// The same for a worker that runs an operation: a step that goes on, which most do, is stored without a look at what else a worker can be.
-// With `put_worker` in its place `tick` is slower than the model (286.7 ms for 5 million records, not 281.3; the model 281.8).
-#[tactic(auto, unfolding(crate::specs::Content::put_row, crate::specs::Block::slot, crate::specs::Block::store))]
+// The same for a worker that runs an operation.
 pub fn put_working(m: &mut Memory, w: u64, o: Own, job: u64, p: Place)
     ensures { m.new ≡ put_worker m.old w (Worker.Working o job p) }
 {
-    if w < 8 {
-        let r = row_working(o, job, p);
-        put_row(m, 576 + 8 * w as usize, r);
-    }
+    put_worker(m, w, Worker::Working(o, job, p));
 }
 
 // All workers become idle.
