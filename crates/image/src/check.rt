@@ -56,7 +56,7 @@ fn marked_words_bad(sizes: Sizes, image: &[u8], marks: &[bool; 64]) -> bool
 }
 
 // 20 to 24.
-#[tactic(auto, using(crate::proofs::ImageLaws::descriptors_either, crate::proofs::ClaimLaws::marked_words), unfolding(crate::specs::Check::content_refusal, events::specs::Refusal::first_of))]
+#[tactic(auto, using(crate::proofs::ImageLaws::none_refused, crate::proofs::ImageLaws::descriptors_either, crate::proofs::ClaimLaws::marked_words), unfolding(crate::specs::Check::content_refusal, events::specs::Refusal::first_of))]
 fn check_content(sizes: Sizes, image: &[u8]) -> Result<(), Refusal>
     ensures { told result ≡ C.content_refusal sizes.words sizes.descriptors image.now }
 {

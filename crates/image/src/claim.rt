@@ -15,6 +15,7 @@ const POINTER: u64 = 1 << 62;
 
 // The word at a points to d, dirty or clean. By bits: by its sort, a whole recovery takes 645 ns in place of 520,
 // and was to take no more than 616.
+#[tactic(auto, using(crate::proofs::ClaimLaws::points_law))]
 pub(crate) fn points_to(image: &[u8], a: u64, d: u64) -> bool
     requires { (a < 64) × (d < 16) }
     ensures { result ≡ points_to (L.word_of image.now a) d }

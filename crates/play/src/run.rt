@@ -52,7 +52,7 @@ pub fn play(m: &mut Memory, stage: Stage, input: &[u8], out: &mut [u8]) -> Progr
 
 // The end of the input, with these bytes left, of which `play` can play nothing. The last line is absent when there was no good
 // setup.
-#[tactic(auto, unfolding(answers::specs::Put::put_of))]
+#[tactic(auto, using(crate::proofs::RunLaws::close_cut), unfolding(answers::specs::Put::put_of))]
 pub fn finish(m: &Memory, stage: Stage, rest: &[u8], out: &mut [u8]) -> usize
     ensures { filled out.new result ≡ put_of out.old 0 (T.closing stage m.now rest.now) }
 {

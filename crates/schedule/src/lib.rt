@@ -63,6 +63,7 @@ pub fn head_at(s: &[u8], at: usize, started: bool) -> Head
 }
 
 // The body of a record: the caller's own bytes, as many as the kind fixes; none where they are not all there.
+#[tactic(auto, using(crate::proofs::CodeLaws::body_cut, crate::proofs::CodeLaws::body_whole))]
 pub fn body_at(s: &[u8], at: usize, kind: u8) -> &[u8]
     ensures { result.now ≡ body_of s.now at kind }
 {
