@@ -20,7 +20,8 @@ pub struct Row {
     pub noted: u64,
 }
 
-// Recovery's place: whether there is one, the descriptor, the steps done. Three numbers of the block, and so no Option.
+// Recovery's place: whether there is one, the descriptor, the steps done. Three numbers of the block, and so no
+// Option: `recovery_of` promises a place for any three.
 #[derive(Clone, Copy, PartialEq, Eq, Default, Debug)]
 pub struct RecoveryRow {
     pub on: u64,
@@ -135,6 +136,7 @@ pub fn own_in(r: Row) -> Own
     Own::Operation(r.own)
 }
 
+// Functions, and no From: pages and theorems know each by its definition's name.
 #[tactic(auto, unfolding(crate::specs::Row::worker_of))]
 pub fn worker_of(r: Row) -> Worker
     ensures { result ≡ worker_of r }
@@ -174,7 +176,7 @@ fn row_at(tag: u64, own: u64, job: u64, p: Place) -> Row
     }
 }
 
-// The row of a worker that runs an operation.
+// The row of a worker that runs an operation: a promise of its own (`promises`).
 pub fn row_working(o: Own, job: u64, p: Place) -> Row
     ensures { result ≡ Rattle.codes.specs.Row.row_working o job p }
 {

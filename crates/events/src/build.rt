@@ -65,7 +65,7 @@ pub fn open_found(m: &mut Memory, w: u64, f: Option<u64>) -> Answer
     ensures { left m.new result ≡ B.opened m.old w f }
 {
     let Some(d) = f else {
-        return Answer::Refused(u64::from(Refusal::NoneQualifies));
+        return Answer::from(Refusal::NoneQualifies);
     };
     clear_body(m, d);
     put_worker(m, w, Worker::Building(d));

@@ -3,6 +3,7 @@
 
 ghost use Rattle.std.specs.Prelude.{◌≡◌};
 ghost use Rattle.events.specs.Number.{number};
+ghost use Rattle.events.specs.declared.Answer.TheVariants.{Refused};
 
 mod build;
 mod refuse;
@@ -18,7 +19,7 @@ use word::Outcome;
 #[derive(Clone, Copy, PartialEq, Eq, Debug)]
 pub enum Event {
     Open(u64),
-    // worker, address, expected, desired
+    // worker, address, expected, desired: no Entry, since the theorems of `ledger` speak of an event so
     Add(u64, u64, u64, u64),
     Remove(u64, u64),
     Submit(u64),
@@ -74,5 +75,13 @@ impl From<Refusal> for u64 {
 
     fn from(r: Refusal) -> u64 {
         r as u64
+    }
+}
+
+impl From<Refusal> for Answer {
+    ghost from_gives = { λ r a. a ≡ Refused (number r) };
+
+    fn from(r: Refusal) -> Answer {
+        Answer::Refused(u64::from(r))
     }
 }

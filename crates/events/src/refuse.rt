@@ -1,4 +1,5 @@
-// The refusals 4 to 17: each function is one table of document 01, its conditions in the order of the table.
+// The refusals 4 to 17: each function is one table of document 01, its conditions in the order of the table, a line each, also those that several
+// tables begin with. The block, the worker's number and the worker are three parameters, as their promises have it.
 ghost use Rattle.std.specs.Prelude.{◌≡◌, true, false, [], ◌∷◌, MatchResult};
 ghost use Rattle.events.specs.Refusal as R;
 ghost use Rattle.events.specs.Build as B;

@@ -1,4 +1,5 @@
-// The input of a program in pieces: what has been read and not used yet is kept at the start of a buffer.
+// The input of a program in pieces: what has been read and not used yet is kept at the start of a buffer, which the caller lends, with
+// how many bytes are kept beside it: that is what is promised of both functions.
 #![tactic(auto)]
 
 ghost use Rattle.std.specs.Prelude.{◌≡◌, ◌+◌, ◌≤◌, length, take};

@@ -9,6 +9,7 @@ use crate::layout::{Sizes, count_in, entry_in};
 use crate::part::is_free;
 use little::read_u64;
 
+// `word` keeps its bits to itself.
 const DIRTY: u64 = 1 << 63;
 
 const POINTER: u64 = 1 << 62;

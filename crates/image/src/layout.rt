@@ -8,7 +8,8 @@ use little::read_u64;
 use steps::Entry;
 use word::{Sort, Status, sort_of, status_of};
 
-// An image's n and k, once they have passed check 1. The bytes stand beside it, and not in it: recovery stores in them between two looks at it.
+// An image's n and k, once they have passed check 1. The bytes stand beside it, and
+// not in it: a check lends them to read and recovery to write, and each function cuts its part of them.
 #[derive(Clone, Copy)]
 pub(crate) struct Sizes {
     pub(crate) words: u64,

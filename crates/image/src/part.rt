@@ -18,12 +18,11 @@ pub(crate) fn status_bad(part: &[u8]) -> bool
 // A value is below this.
 const VALUES: u64 = 1 << 61;
 
-// By `|`, here and in bad_at: by `||` a whole recovery takes 555 ns in place of 520.
 #[tactic(auto, unfolding(crate::specs::Check::bad_entry))]
 fn entry_bad(n: u64, e: Entry) -> bool
     ensures { result ≡ C.bad_entry n e }
 {
-    (n <= e.address) | ((VALUES <= e.expected) | (VALUES <= e.desired))
+    n <= e.address || VALUES <= e.expected || VALUES <= e.desired
 }
 
 // Entry i, and its address against the one before it.
@@ -33,11 +32,7 @@ fn bad_at(n: u64, part: &[u8], i: u64) -> bool
     ensures { result ≡ C.bad_at n part.now i }
 {
     let e = entry_in(part, i);
-    let bad = entry_bad(n, e);
-    if i == 0 {
-        return bad;
-    }
-    bad | (e.address <= entry_in(part, i - 1).address)
+    entry_bad(n, e) || i != 0 && e.address <= entry_in(part, i - 1).address
 }
 
 fn entries_bad(n: u64, part: &[u8], count: u64) -> bool

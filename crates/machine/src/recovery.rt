@@ -64,7 +64,7 @@ pub(crate) fn recover(m: &mut Memory, k: u64, p: RecoveryPlace) -> Answer
     ensures { left m.new result ≡ R.recover_of m.old k p }
 {
     match p {
-        RecoveryPlace::Outside => Answer::Refused(u64::from(Refusal::OutsideRecovery)),
+        RecoveryPlace::Outside => Answer::from(Refusal::OutsideRecovery),
         RecoveryPlace::At(d, s) => recovery_step(m, k, d, s),
     }
 }

@@ -217,7 +217,7 @@ fn rest_step(m: &mut Memory, w: u64, x: Worker) -> Answer
     match x {
         Worker::Reading(a) => read_step(m, w, a),
         Worker::ReadClear(a, v) => read_clear_step(m, w, a, v),
-        _ => Answer::Refused(u64::from(Refusal::RunsNothing)),
+        _ => Answer::from(Refusal::RunsNothing),
     }
 }
 

@@ -32,7 +32,7 @@ fn start(m: &mut Memory, n: u64, k: u64, w: u64)
     save(m, 642, w);
 }
 
-// A fresh memory of these sizes; where one is out of its range, nothing changes and the answer is false.
+// Three numbers and a bool, and no Sizes and Result: `fresh_of` is promised so. A fresh memory of these sizes; where one is out of its range, nothing changes and the answer is false.
 #[tactic(auto, unfolding(crate::specs::Fresh::fresh_of))]
 pub fn fresh(m: &mut Memory, n: u64, k: u64, w: u64) -> bool
     ensures { begun m.new result ≡ fresh_of m.old n k w }

@@ -38,7 +38,7 @@ pub(crate) fn base(c: Copy) -> usize
     }
 }
 
-// A slot, and no Option: 646 is nowhere, as in the definition, and `copied` counts on from it.
+// A slot, and no Option: 646 is nowhere, as in the definition (`slot`), and a body is copied from it on (`copied`).
 #[tactic(auto, unfolding(crate::specs::Block::slot))]
 pub(crate) fn word_slot(c: Copy, a: u64) -> usize
     ensures { result ≡ slot (word c a) }

@@ -73,6 +73,7 @@ pub fn clear_body(m: &mut Memory, d: u64)
     }
 }
 
+// One by one, as the definition has it: a slot may be nowhere, of which no part could be cut.
 #[tactic(auto, unfolding(crate::specs::Content::copied))]
 fn copy_numbers(m: &mut Memory, from: usize, to: usize, n: usize)
     requires { (from ≤ 646) × ((to ≤ 646) × (n ≤ 288)) }

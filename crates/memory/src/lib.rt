@@ -20,7 +20,7 @@ pub use workers::{
     idle_workers, put_recovery, put_worker, put_working, read_recovery, read_row, read_worker,
 };
 
-// The block; slot 646 is nowhere. Numbers of one array: what holds the machine is lent, and nothing is allocated.
+// The block; slot 646 is nowhere. Numbers of one array, lent: each promise and theorem is about this list of numbers (`Block`).
 pub type Memory = [u64; 646];
 
 // Each word, status and body has a cached and a persisted copy.

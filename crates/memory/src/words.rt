@@ -1,5 +1,5 @@
-// Words and statuses: a copy of one, a store to the cached copy, the write-back of one. Not one generic function each: that it asks
-// nothing of its caller could not be stated of it (`promises`).
+// Words and statuses: a copy of one, a store to the cached copy, the write-back of one. Not one generic function
+// for both: the six would stand over it all the same, since it is said of each that it asks nothing of its caller (`promises`).
 ghost use Rattle.std.specs.Prelude.{◌≡◌};
 ghost use Rattle.memory.specs.Content.{word_in, put_word, back_word, status_in, put_status, back_status};
 

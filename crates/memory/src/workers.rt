@@ -63,7 +63,7 @@ pub fn put_worker(m: &mut Memory, w: u64, x: Worker)
     }
 }
 
-// The same for a worker that runs an operation.
+// The same for a worker that runs an operation: a promise of its own, and so not gone (`promises`).
 pub fn put_working(m: &mut Memory, w: u64, o: Own, job: u64, p: Place)
     ensures { m.new ≡ put_worker m.old w (Worker.Working o job p) }
 {

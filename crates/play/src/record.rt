@@ -16,12 +16,7 @@ use schedule::{event_of, setup_of};
 pub(crate) fn refused_turn(m: &Memory, p: &mut Progress, out: &mut [u8], r: Refusal)
     ensures { D.done m.now p.new out.new ≡ D.turned p.old out.old (T.refused_turn m.now p.old.stage (number r)) }
 {
-    p.written = put_line(
-        out,
-        p.written,
-        number_in(p.stage),
-        Answer::Refused(u64::from(r)),
-    );
+    p.written = put_line(out, p.written, number_in(p.stage), Answer::from(r));
     p.stage = Stage::Over(has_begun(p.stage));
 }
 

@@ -12,7 +12,8 @@ use events::{Answer, Refusal};
 use memory::Memory;
 use schedule::{Head, body_at, head_at};
 
-// What stands at the place of the input that playing has come to.
+// What stands at the place of the input that playing has come to. The memory and the output are lent to `play` by themselves, and so
+// from turn to turn.
 fn turn(m: &mut Memory, p: &mut Progress, input: &[u8], out: &mut [u8])
     ensures { D.done m.new p.new out.new ≡ D.done_from out.old p.old.written p.old.used (T.play_of 1 m.old p.old.stage (drop p.old.used input.now)) }
 {
@@ -57,10 +58,10 @@ pub fn finish(m: &Memory, stage: Stage, rest: &[u8], out: &mut [u8]) -> usize
     ensures { filled out.new result ≡ put_of out.old 0 (T.closing stage m.now rest.now) }
 {
     match stage {
-        Stage::First => put_line(out, 0, 0, Answer::Refused(u64::from(Refusal::Short))),
+        Stage::First => put_line(out, 0, 0, Answer::from(Refusal::Short)),
         Stage::At(_) if rest.is_empty() => put_last(out, 0, m),
         Stage::At(i) => {
-            let to = put_line(out, 0, i, Answer::Refused(u64::from(Refusal::Short)));
+            let to = put_line(out, 0, i, Answer::from(Refusal::Short));
             put_last(out, to, m)
         }
         Stage::Over(true) => put_last(out, 0, m),

@@ -11,7 +11,7 @@ use events::Event;
 use little::read_u64;
 use memory::Sizes;
 
-// What stands at a place of the input: a record, with its kind and its body's length; a kind that is unknown there
+// No Result: that the input ends there, or inside of a record, is no refusal yet. What stands at a place of the input: a record, with its kind and its body's length; a kind that is unknown there
 // (refusal 3); a record that the input ends inside of (refusal 2); nothing more.
 #[derive(Clone, Copy, PartialEq, Eq, Debug)]
 pub enum Head {

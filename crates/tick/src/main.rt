@@ -10,6 +10,7 @@ struct Tick<'a, R> {
     rt: &'a R,
     memory: Memory,
     stage: Stage,
+    // a fixed buffer: nothing is allocated
     out: [u8; 65536],
 }
 

@@ -4,6 +4,7 @@ use memory::Memory;
 use std::fmt;
 use std::fmt::Write;
 
+// Not Display: a line needs the number of what it is about, and the types are other crates'.
 pub(crate) trait Line: Copy + PartialEq {
     fn read(m: &Memory, i: u64) -> Self;
 

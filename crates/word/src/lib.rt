@@ -35,7 +35,7 @@ pub enum Status {
     Bad(u64),
 }
 
-// Words and statuses are made of numbers by functions, and no From: pages and theorems know each by its definition's name.
+// Words and statuses are made of numbers by functions, and no From: docs/PROMISES.md, its theorems and edits know each by its definition's name.
 pub fn sort_of(w: u64) -> Sort
     ensures { result ≡ sort_of w }
 {
