@@ -22,6 +22,7 @@ fn missing(rt: &impl Print, name: &[u8], what: &str) -> bool {
 
 // Whether a schedule gives what is expected; and its line.
 fn is_same<R: Files + Print>(rt: &R, name: &[u8]) -> bool {
+    // fixed buffers: nothing is allocated
     let mut schedule = [0u8; 65536];
     let mut wanted = [0u8; 65536];
     let mut got = [0u8; 65536];
