@@ -1,4 +1,5 @@
-// Events and answers of document 01, the refusals 4 to 17, and the events that build a descriptor (records 01 to 03).
+// Events and answers of document 01, the refusals 1 to 17 by name, the tables of those that an event can meet (4 to 17), and the events that build a
+// descriptor (records 01 to 03).
 #![tactic(auto)]
 
 ghost use Rattle.std.specs.Prelude.{◌≡◌};
@@ -48,7 +49,7 @@ pub enum Answer {
     Refused(u64),
 }
 
-// The refusals of a schedule: 1 to 3 of its records, 4 to 17 of its events, by their numbers.
+// The refusals of a schedule, each with its number: 1 to 3 of its records, 4 to 17 of its events.
 #[derive(Clone, Copy, PartialEq, Eq, Debug)]
 pub enum Refusal {
     BadSizes = 1,

@@ -12,7 +12,7 @@ use Rattle.machine.specs.Recover.{place_after, visit_after}
 use Rattle.std.specs.Prelude.{Option, Some, None, ℕ}
 use Rattle.image.specs.Check.{image_refusal}
 use Rattle.image.specs.CheckLaws.{accepted}
-use Rattle.image.specs.Refusals.{number_of}
+use Rattle.image.specs.Refusals.{number}
 use Rattle.image.specs.declared.refusal.Refusal.{Refusal}
 use Rattle.image.specs.declared.refusal.Refusal.TheVariants.{Sizes, Length, Status, Body, Word, Pointer}
 use Rattle.image.specs.Good.{Good, good}
@@ -148,7 +148,7 @@ goes_out n k x d allowance left r h i =
     ap reported (rw (le-ltb d k h, run_outside left n k x, z) at i)
 
 -- refused, or run
-some_number : (r : Refusal) → number_of r ≡ suc (number_of r - 1)
+some_number : (r : Refusal) → number r ≡ suc (number r - 1)
 some_number Sizes = refl
 some_number Length = refl
 some_number Status = refl
@@ -156,7 +156,7 @@ some_number Body = refl
 some_number Word = refl
 some_number Pointer = refl
 
-pub refused : (n k : ℕ) (x : List ℕ) (allowance : ℕ) (r : Refusal) → number_of r ≡ image_refusal n k x → recovered x (record { answer = number_of r; steps = 0 }) ≡ recover_of n k x allowance
+pub refused : (n k : ℕ) (x : List ℕ) (allowance : ℕ) (r : Refusal) → number r ≡ image_refusal n k x → recovered x (record { answer = number r; steps = 0 }) ≡ recover_of n k x allowance
 unfolding recover_of
 refused n k x allowance r e = rw (← e, some_number r)
 

@@ -6,7 +6,7 @@ use Rattle.steps.specs.Plan.{points_to}
 use Rattle.image.specs.Layout.{word_of, with_word, with_status}
 use Rattle.image.specs.Recover.{plan_in, image_after}
 
--- the image then; and what is left of the allowance where the steps are over
+-- the image then; and what is left of the allowance where the steps are over, None where the allowance ended before they were
 pub record Visited : Type 0 where
   pub bytes : List ℕ
   pub result : Option ℕ

@@ -4,7 +4,7 @@ ghost use Rattle.std.specs.Prelude.{◌≡◌, ◌<◌, ◌≤◌, IfOk};
 ghost use Rattle.image.specs.Layout as L;
 ghost use Rattle.image.specs.Check as C;
 ghost use Rattle.image.specs.Claims as M;
-ghost use Rattle.image.specs.Refusals.{told};
+ghost use Rattle.image.specs.Refusals.{refused};
 
 use crate::claim::claimed;
 use crate::layout::{Sizes, word_of};
@@ -58,7 +58,7 @@ fn marked_words_bad(sizes: Sizes, image: &[u8], marks: &[bool; 64]) -> bool
 // 20 to 24.
 #[tactic(auto, using(crate::proofs::ImageLaws::none_refused, crate::proofs::ImageLaws::descriptors_either, crate::proofs::ClaimLaws::marked_words), unfolding(crate::specs::Check::content_refusal, events::specs::Refusal::first_of))]
 fn check_content(sizes: Sizes, image: &[u8]) -> Result<(), Refusal>
-    ensures { told result ≡ C.content_refusal sizes.words sizes.descriptors image.now }
+    ensures { refused result ≡ C.content_refusal sizes.words sizes.descriptors image.now }
 {
     if image.len() != sizes.place(sizes.descriptors) {
         return Err(Refusal::Length);
@@ -82,7 +82,7 @@ fn check_content(sizes: Sizes, image: &[u8]) -> Result<(), Refusal>
 // All of them.
 #[tactic(auto, unfolding(crate::specs::Check::image_refusal, crate::specs::Check::content_refusal, events::specs::Refusal::first_of))]
 pub(crate) fn checked(n: u64, k: u64, image: &[u8]) -> Result<Sizes, Refusal>
-    ensures refusal { told result ≡ C.image_refusal n k image.now }
+    ensures refusal { refused result ≡ C.image_refusal n k image.now }
     ensures sizes { IfOk result (λ s. (s.words ≡ n) × (s.descriptors ≡ k)) }
 {
     let sizes = Sizes::new(n, k)?;

@@ -1,6 +1,6 @@
 // Why an image is refused, each with its number (document 01, "Images for the C runtime").
 ghost use Rattle.std.specs.Prelude.{◌≡◌};
-ghost use Rattle.image.specs.Refusals.{number_of};
+ghost use Rattle.image.specs.Refusals.{number};
 
 #[derive(Clone, Copy, PartialEq, Eq, Debug)]
 pub(crate) enum Refusal {
@@ -13,7 +13,7 @@ pub(crate) enum Refusal {
 }
 
 impl From<Refusal> for u64 {
-    ghost from_gives = { λ r n. n ≡ number_of r };
+    ghost from_gives = { λ r n. n ≡ number r };
 
     fn from(r: Refusal) -> u64 {
         r as u64
