@@ -10,6 +10,7 @@ use word::{Sort, Status, sort_of, status_of};
 
 // An image's n and k, once they have passed check 1. The bytes stand beside it, and
 // not in it: a check lends them to read and recovery to write, and each function cuts its part of them.
+// Compared and shown nowhere, so it derives no more.
 #[derive(Clone, Copy)]
 pub(crate) struct Sizes {
     pub(crate) words: u64,

@@ -91,7 +91,7 @@ fn address_of(m: &Memory, d: u64, i: u64) -> u64
     read_entry(m, Copy::Cached, d, i).address
 }
 
-// A worker at work: what it owns, the operation that is its current job, its place there.
+// A worker at work: what it owns, the operation that is its current job, its place there. Compared and shown nowhere, so it derives no more.
 #[derive(Clone, Copy)]
 struct Work {
     worker: u64,

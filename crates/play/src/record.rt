@@ -33,6 +33,7 @@ fn setup_turn(m: &mut Memory, p: &mut Progress, x: Sizes, out: &mut [u8])
     }
 }
 
+// The kind is a byte here and in record_turn, as `schedule` hands it over and takes it back.
 fn event_turn(m: &mut Memory, p: &mut Progress, i: u64, kind: u8, body: &[u8], out: &mut [u8])
     ensures { D.done m.new p.new out.new ≡ D.turned p.old out.old (T.event_turn m.old i kind body.now) }
 {
