@@ -79,6 +79,17 @@ for lib in crates/*/src/lib.rt; do
         done
     done
 done
+# each method of a public trait has an ensures, no requires, and a row that names the trait
+for file in crates/*/src/*.rt; do
+    trait=$(sed -n 's/^pub trait \([A-Za-z]*\).*/\1/p' "$file")
+    [ "$trait" ] || continue
+    for f in $(sed -n 's/^    \(final \)\{0,1\}fn \([a-z_0-9]*\).*/\2/p' "$file"); do
+        method=$(awk -v f="$f" '$0 ~ "^    (final )?fn " f "[(<]" {on = 1} on {print} on && /(;|\{)$/ {exit}' "$file")
+        case $method in *ensures*) ;; *) say "$file: $trait::$f has no ensures" ;; esac
+        case $method in *requires*) say "$file: $trait::$f has a requires" ;; esac
+        grep -q "^| \`$trait::$f\` |" docs/PROMISES.md || say "$file: $trait::$f has no row in docs/PROMISES.md"
+    done
+done
 for edit in crates/*/must-fail/*.edit; do
     [ -f "$edit" ] || continue
     name=$(echo "$edit" | sed 's/^crates.//; s/.must-fail.*//')/$(basename "$edit" .edit)

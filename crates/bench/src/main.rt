@@ -125,22 +125,37 @@ fn run(n: u64) -> Count
     c
 }
 
-// The decimal number in the first 32 bytes of the input: its last nine digits.
-fn read_number(input: &mut impl Read) -> u64
+// Reads until the text is full, the input ends or a read fails; how many bytes there are then. No iterator over bytes, which reads them
+// one by one, and again where a read is interrupted.
+fn read_text(input: &mut impl Read, text: &mut [u8; 32]) -> usize
+    ensures { result ≤ 32 }
+{
+    let mut n = 0;
+    while n < text.len() {
+        match input.read(&mut text[n..]) {
+            Ok(got) if got > 0 => n += got,
+            _ => break,
+        }
+    }
+    n
+}
+
+// The decimal number in a text: its last nine digits.
+fn number_in(text: &[u8]) -> u64
     ensures { result < 1000000000 }
 {
     let mut n = 0;
-    for b in input.bytes().take(32) {
-        match b {
-            Ok(b @ b'0'..=b'9') => n = n % 100000000 * 10 + u64::from(b - b'0'),
-            Ok(_) => {}
-            Err(_) => break,
+    for b in text {
+        if let b @ b'0'..=b'9' = *b {
+            n = n % 100000000 * 10 + u64::from(b - b'0');
         }
     }
     n
 }
 
 fn main(rt: HostRuntime) {
-    let c = run(read_number(&mut rt.stdin()));
+    let mut text = [0u8; 32];
+    let n = read_text(&mut rt.stdin(), &mut text);
+    let c = run(number_in(&text[..n]));
     let _ = println!(rt; "{} {} {}", c.sum, c.won, c.lost);
 }

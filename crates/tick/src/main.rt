@@ -1,6 +1,9 @@
 // tick: reads a schedule on standard input, and writes the line of each record and the last line on standard output.
 #![tactic(auto)]
 
+ghost use Rattle.std.specs.Prelude.{◌≡◌};
+ghost use Rattle.drive.specs.ByPlay.{ByPlay};
+
 use drive::Player;
 use memory::Memory;
 use play::{Stage, finish, play};
@@ -23,6 +26,13 @@ impl<R: Print> Tick<'_, R> {
 }
 
 impl<R: Print> Player for Tick<'_, R> {
+    ghost stage_of = { λ s. s.stage };
+
+    ghost plays = { λ s x t n. ByPlay s.memory s.stage x s.out t.memory t.stage t.out n };
+
+    // No text is kept back.
+    ghost flushes = { λ s t. t ≡ s };
+
     // A write that fails ends reading, and nothing more is written.
     fn play_on(&mut self, input: &[u8]) -> usize {
         let r = play(&mut self.memory, self.stage, input, &mut self.out);
@@ -38,6 +48,8 @@ impl<R: Print> Player for Tick<'_, R> {
     fn stage(&self) -> Stage {
         self.stage
     }
+
+    fn flush(&mut self) {}
 }
 
 fn main(rt: HostRuntime) {

@@ -1,4 +1,5 @@
 // A line of the memory: it is read, held to what it was before, and put. docs/TRACE.md has the lines.
+use crate::decimal::Decimal;
 use crate::page::Page;
 use memory::Memory;
 use std::fmt;
@@ -38,7 +39,7 @@ impl<T: Copied> Line for Copies<T> {
 
     fn put(&self, page: &mut Page, i: u64) -> fmt::Result {
         let name = T::NAME;
-        write!(page, "  {name} {i}  cached")?;
+        write!(page, "  {name} {}  cached", Decimal(i))?;
         self.cached.put(page)?;
         write!(page, "  persisted")?;
         self.persisted.put(page)

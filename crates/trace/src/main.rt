@@ -2,7 +2,11 @@
 // changed, after the last line the whole memory. docs/TRACE.md has the lines.
 #![tactic(auto)]
 
+ghost use Rattle.std.specs.Prelude.{◌≡◌, List, ℕ, length};
+ghost use Rattle.drive.specs.ByPlay.{ByPlay, Written};
+
 mod changes;
+mod decimal;
 mod lines;
 mod page;
 mod values;
@@ -36,6 +40,13 @@ impl<R: Print> Trace<'_, R> {
 }
 
 impl<R: Print> Player for Trace<'_, R> {
+    ghost stage_of = { λ s. s.stage };
+
+    // Into a line of 48 bytes; its text goes into the page.
+    ghost plays = { λ s x t n. (line : List ℕ) × (o : List ℕ) × (length line ≡ 48) × ByPlay s.memory s.stage x line t.memory t.stage o n };
+
+    ghost flushes = { λ s t. (t.memory ≡ s.memory) × Written s.stage t.stage };
+
     // One record: a line of 48 bytes has room for no more. A good setup makes all of the memory new.
     fn play_on(&mut self, input: &[u8]) -> usize {
         let old = self.memory;

@@ -1,4 +1,5 @@
 // What has a cached and a persisted copy: words, statuses and bodies.
+use crate::decimal::Decimal;
 use crate::lines::Copied;
 use crate::page::Page;
 use memory::{Memory, read_count, read_entry, read_status, read_word};
@@ -20,9 +21,9 @@ impl Copied for Sort {
 
     fn put(&self, page: &mut Page) -> fmt::Result {
         match *self {
-            Sort::Plain(v, dirty) => write!(page, " {v}{}", mark(dirty)),
-            Sort::Pointer(d, dirty) => write!(page, " pointer to {d}{}", mark(dirty)),
-            Sort::Neither(x) => write!(page, " neither {x}"),
+            Sort::Plain(v, dirty) => write!(page, " {}{}", Decimal(v), mark(dirty)),
+            Sort::Pointer(d, dirty) => write!(page, " pointer to {}{}", Decimal(d), mark(dirty)),
+            Sort::Neither(x) => write!(page, " neither {}", Decimal(x)),
         }
     }
 }
@@ -40,7 +41,7 @@ impl Copied for Status {
             Status::Undecided => write!(page, " Undecided"),
             Status::Decided(Outcome::Succeeded, dirty) => write!(page, " Succeeded{}", mark(dirty)),
             Status::Decided(Outcome::Failed, dirty) => write!(page, " Failed{}", mark(dirty)),
-            Status::Bad(x) => write!(page, " bad {x}"),
+            Status::Bad(x) => write!(page, " bad {}", Decimal(x)),
         }
     }
 }
@@ -68,7 +69,13 @@ impl Copied for Body {
             return write!(page, " empty");
         }
         for e in &self.entries[..self.count.min(4) as usize] {
-            write!(page, " {}:{}>{}", e.address, e.expected, e.desired)?;
+            write!(
+                page,
+                " {}:{}>{}",
+                Decimal(e.address),
+                Decimal(e.expected),
+                Decimal(e.desired)
+            )?;
         }
         Ok(())
     }

@@ -1,5 +1,5 @@
 // Files of at most 65,535 bytes, whole.
-ghost use Rattle.std.specs.Prelude.{◌≤◌, length};
+ghost use Rattle.std.specs.Prelude.{◌≤◌, length, IfSome};
 
 use std::fs;
 use std::io::Read;
@@ -21,7 +21,9 @@ fn read_full(file: &mut impl Read, buf: &mut [u8]) -> usize
 }
 
 // Reads a file to the start of a buffer; one that fills the buffer may be longer, and does not count.
-pub(crate) fn load<'a>(rt: &impl Files, path: &[u8], buf: &'a mut [u8]) -> Option<&'a [u8]> {
+pub(crate) fn load<'a>(rt: &impl Files, path: &[u8], buf: &'a mut [u8]) -> Option<&'a [u8]>
+    ensures { IfSome result (λ s. length s.now ≤ length buf.old) }
+{
     let path = str::from_utf8(path).ok()?;
     let mut file = fs::open(rt, path).ok()?;
     let n = read_full(&mut file, buf);
@@ -37,7 +39,9 @@ pub(crate) fn load_part<'a>(
     name: &[u8],
     ending: &[u8],
     buf: &'a mut [u8],
-) -> Option<&'a [u8]> {
+) -> Option<&'a [u8]>
+    ensures { IfSome result (λ s. length s.now ≤ length buf.old) }
+{
     let mut path = [0u8; 4096];
     let n = name.len();
     let end = n + ending.len();

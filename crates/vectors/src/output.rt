@@ -1,5 +1,6 @@
 // The whole output of a whole schedule, in a buffer.
-ghost use Rattle.std.specs.Prelude.{◌≤◌, length};
+ghost use Rattle.std.specs.Prelude.{◌≡◌, ◌≤◌, length, drop};
+ghost use Rattle.drive.specs.ByPlay.{ByPlay};
 
 use drive::Player;
 use memory::Memory;
@@ -15,6 +16,14 @@ struct Output<'a> {
 }
 
 impl Player for Output<'_> {
+    ghost stage_of = { λ s. s.stage };
+
+    // Behind what is written; the buffer keeps its length.
+    ghost plays = { λ s x t n. (length t.bytes.now ≡ length s.bytes.now) × ByPlay s.memory s.stage x (drop s.written s.bytes.now) t.memory t.stage (drop s.written t.bytes.now) n };
+
+    // The text stands in the buffer at once.
+    ghost flushes = { λ s t. t ≡ s };
+
     // Behind what is written already, as long as there is room.
     fn play_on(&mut self, input: &[u8]) -> usize {
         let r = play(
@@ -31,9 +40,13 @@ impl Player for Output<'_> {
     fn stage(&self) -> Stage {
         self.stage
     }
+
+    fn flush(&mut self) {}
 }
 
-pub(crate) fn whole_output<'a>(input: &[u8], out: &'a mut [u8]) -> &'a [u8] {
+pub(crate) fn whole_output<'a>(input: &[u8], out: &'a mut [u8]) -> &'a [u8]
+    ensures { length result.now ≤ length out.old }
+{
     let mut output = Output {
         memory: [0; 646],
         stage: Stage::First,

@@ -15,13 +15,13 @@ pub returns-in_err-left-2 : goal.returns-in_err-left-2
 returns-in_err-left-2 c =
     let l = c.in_ok-left.ensures in
     rw c.from_residual-in_err-left-2.ensures
-    (going_halts _ _ _ _ _ _ _ _ _ c.loop-i.invariant c.loop-i-test.true _ _ c.part-in-loop-i.ensures c.entry_in-e.ensures _ c.left_value.ensures _ l.0 c.replace.ensures _ l.1 c.in_err-left-2.ensures)
+    (going_halts _ _ _ _ _ _ _ _ _ c.loop-i.invariant c.loop-i-test.true _ _ c.part-in-loop-i.ensures c.entry_in-e.ensures _ (search rules) _ l.0 c.replace.ensures _ l.1 c.in_err-left-2.ensures)
 
 pub loop-i-preserved : goal.loop-i-preserved
 loop-i-preserved c =
     let l = c.in_ok-left.ensures in
     rw c.in_ok-left-2.ensures.1
-    (going_on _ _ _ _ _ _ _ _ _ c.loop-i.invariant c.loop-i-test.true _ _ c.part-in-loop-i.ensures c.entry_in-e.ensures _ c.left_value.ensures _ l.0 c.replace.ensures _ l.1)
+    (going_on _ _ _ _ _ _ _ _ _ c.loop-i.invariant c.loop-i-test.true _ _ c.part-in-loop-i.ensures c.entry_in-e.ensures _ (search rules) _ l.0 c.replace.ensures _ l.1)
 
 pub returns : goal.returns
 returns c = search (rules, going_over)

@@ -1,0 +1,3 @@
+pub mod ByPlay
+pub mod Playing
+pub mod PlayingLaws
