@@ -84,7 +84,7 @@ for file in crates/*/src/*.rt; do
     trait=$(sed -n 's/^pub trait \([A-Za-z]*\).*/\1/p' "$file")
     [ "$trait" ] || continue
     for f in $(sed -n 's/^    \(final \)\{0,1\}fn \([a-z_0-9]*\).*/\2/p' "$file"); do
-        method=$(awk -v f="$f" '$0 ~ "^    (final )?fn " f "[(<]" {on = 1} on {print} on && /(;|\{)$/ {exit}' "$file")
+        method=$(awk -v f="$f" '$0 ~ "^    (final )?fn " f "[(<]" {on = 1} on {print} on && /(;|\{|\})$/ {exit}' "$file")
         case $method in *ensures*) ;; *) say "$file: $trait::$f has no ensures" ;; esac
         case $method in *requires*) say "$file: $trait::$f has a requires" ;; esac
         grep -q "^| \`$trait::$f\` |" docs/PROMISES.md || say "$file: $trait::$f has no row in docs/PROMISES.md"

@@ -1,5 +1,5 @@
 // The whole output of a whole schedule, in a buffer.
-ghost use Rattle.std.specs.Prelude.{◌≡◌, ◌≤◌, length, drop};
+ghost use Rattle.std.specs.Prelude.{◌≡◌, ◌≤◌, ◌+◌, length, drop};
 ghost use Rattle.drive.specs.ByPlay.{ByPlay};
 
 use drive::Player;
@@ -18,8 +18,10 @@ struct Output<'a> {
 impl Player for Output<'_> {
     ghost stage_of = { λ s. s.stage };
 
-    // Behind what is written; the buffer keeps its length.
-    ghost plays = { λ s x t n. (length t.bytes.now ≡ length s.bytes.now) × ByPlay s.memory s.stage x (drop s.written s.bytes.now) t.memory t.stage (drop s.written t.bytes.now) n };
+    // Behind what is written, of which there is so much more then; the buffer keeps its length, and no write can fail.
+    ghost plays = { λ s x t n. (length t.bytes.now ≡ length s.bytes.now)
+        × (p : ByPlay s.memory s.stage x (drop s.written s.bytes.now) t.memory t.stage (drop s.written t.bytes.now) n)
+        × (t.stage ≡ p.progress.stage) × (t.written ≡ s.written + p.progress.written) };
 
     // The text stands in the buffer at once.
     ghost flushes = { λ s t. t ≡ s };
