@@ -1,7 +1,7 @@
 #!/bin/sh
 # Every public function of a library has an ensures and no requires, a theorem in its crate's specs/Coincide.antt, two wrong answers
 # ruled out in crates/excludes/specs (NAME_not_..), and a row in docs/PROMISES.md with the contract's equation and these theorems;
-# every must-fail edit has a row there too. A function without a theorem is named there, with the reason. What C links is the crate
+# every must-fail edit has a row there too; each method of a public trait an ensures, no requires and a row. A function without a theorem is named there, with the reason. What C links is the crate
 # image's function again, with the same clauses.
 mkdir -p build
 bad=0

@@ -1,14 +1,10 @@
--- One call more, the call that uses nothing, and the input used up.
-use Rattle.std.specs.Prelude.{◌≡◌, ◌+◌, List, ℕ, length, drop}
+-- The call that uses nothing, and the input used up.
+use Rattle.std.specs.Prelude.{◌≡◌, List, ℕ, length, drop}
 use Rattle.std.proofs.Common.{subst, sym}
 use Rattle.drive.specs.Playing.{Calls, PlaysAll}
-use Rattle.drive.specs.Playing.Calls.{more}
 use Rattle.drive.specs.Playing.PlaysAll.{used_up, stopped}
 
 module _ {S : Type 0} (plays : S → List ℕ → S → ℕ → Type 0) where
-  pub one_more : (s t u : S) (x : List ℕ) (n m : ℕ) → Calls plays s x t n → plays t (drop n x) u m → Calls plays s x u (n + m)
-  one_more s t u x n m c p = more c p
-
   pub stops : (s t u : S) (x : List ℕ) (n m : ℕ) → Calls plays s x t n → plays t (drop n x) u m → m ≡ 0 → PlaysAll plays s x u n
   stops s t u x n m c p z = stopped c (subst (λ (k : ℕ). plays t (drop n x) u k) z p)
 

@@ -4,10 +4,10 @@ use Rattle.std.specs.Prelude.{◌≡◌, ◌<◌, true, false, ◌+◌, ◌-◌,
 
 -- plays s x t n: a call on s with the input x may leave t, and say that n bytes were used
 module _ {S : Type 0} (plays : S → List ℕ → S → ℕ → Type 0) where
-  -- some calls, which used n bytes of x
+  -- some calls, of which each used something: n bytes of x in all
   pub data Calls (s : S) (x : List ℕ) : S → ℕ → Type 0 where
     none : Calls s x s 0
-    more : {t u : S} {n m : ℕ} → Calls s x t n → plays t (drop n x) u m → Calls s x u (n + m)
+    more : {t u : S} {n m : ℕ} → Calls s x t n → plays t (drop n x) u m → 0 < m → Calls s x u (n + m)
 
   -- until the input is used up, or a call uses nothing of what is left
   pub data PlaysAll (s : S) (x : List ℕ) : S → ℕ → Type 0 where
